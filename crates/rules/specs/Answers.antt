@@ -1,0 +1,128 @@
+-- Answers (01, "Replies and refusals"): the paper's number and values for each case of each enum.
+use mathlib.Core.Bool.{Bool, true, false}
+use mathlib.Core.List.{List}
+use mathlib.Core.Option.{Option, none, some}
+use Prim.Native.Nat.{ℕ}
+use Rattle.rules.specs.Records.{statusNumber}
+use Rattle.rules.specs.Anchor.{Anchor, connection, tail}
+use Rattle.rules.specs.Timer.{Ask}
+use Rattle.rules.specs.declared.Block.{Block}
+use Rattle.rules.specs.declared.Found.{Found}
+use Rattle.rules.specs.declared.Found.the-variants as found
+use Rattle.rules.specs.declared.FoundHead.{FoundHead}
+use Rattle.rules.specs.declared.FoundHead.the-variants as foundHead
+use Rattle.rules.specs.declared.Got.{Got}
+use Rattle.rules.specs.declared.Counted.{Counted}
+use Rattle.rules.specs.declared.Counted.the-variants as counted
+use Rattle.rules.specs.declared.StatusFound.{StatusFound}
+use Rattle.rules.specs.declared.StatusFound.the-variants as statusFound
+use Rattle.rules.specs.declared.Located.{Located}
+use Rattle.rules.specs.declared.Located.the-variants as located
+use Rattle.rules.specs.declared.Span.{Span}
+use Rattle.rules.specs.declared.Span.the-variants as span
+use Rattle.rules.specs.declared.Recovery.{Recovery}
+use Rattle.rules.specs.declared.Recovery.the-variants as recovery
+use Rattle.rules.specs.declared.Deadline.{Deadline}
+use Rattle.rules.specs.declared.Deadline.the-variants as deadline
+use Rattle.rules.specs.declared.Refusal.{Refusal}
+use Rattle.rules.specs.declared.Refusal.the-variants.{Shape, HashLength, NoBlock, ReservedSequence, ZeroHash, Known, Full, NotNext, HoldsActive}
+use Rattle.rules.specs.declared.Outcome.{Outcome}
+use Rattle.rules.specs.declared.Outcome.the-variants as outcome
+use Rattle.rules.specs.declared.Admitted.{Admitted}
+use Rattle.rules.specs.declared.Admitted.the-variants as admitted
+use Rattle.rules.specs.declared.Removed.{Removed}
+use Rattle.rules.specs.declared.Removed.the-variants as removed
+use Rattle.rules.specs.declared.Timed.{Timed}
+use Rattle.rules.specs.declared.Timed.the-variants as timed
+use Rattle.rules.specs.declared.TimerAnswer.{TimerAnswer}
+use Rattle.rules.specs.declared.DeadlineAnswer.{DeadlineAnswer}
+use Rattle.rules.specs.declared.DeadlineAnswer.the-variants as deadlineAnswer
+
+-- ---- below the calls
+
+abbrev pub slotFound : Found → Option ℕ
+slotFound (found.At slot) = some (slot .0)
+slotFound found.Nothing = none
+
+abbrev pub headFound : FoundHead → Option ℕ
+headFound (foundHead.At slot) = some (slot .0)
+headFound foundHead.Nothing = none
+
+abbrev pub blockGot : Got → Option Block
+blockGot got = elim (got .there) [ true ↦ some (got .block) | false ↦ none ]
+
+abbrev pub countGot : Counted → Option ℕ
+countGot (counted.Count count) = some count
+countGot counted.Nothing = none
+
+abbrev pub statusGot : StatusFound → Option ℕ
+statusGot (statusFound.Status status) = some (statusNumber status)
+statusGot statusFound.Nothing = none
+
+abbrev pub anchorLocated : Located → Anchor
+anchorLocated (located.Connection slot) = connection (slot .0)
+anchorLocated (located.Tail slot) = tail (slot .0)
+
+abbrev pub spanGiven : Span → Option ℕ
+spanGiven (span.Ticks ticks) = some ticks
+spanGiven span.Unset = none
+
+abbrev pub askChosen : Recovery → Option Ask
+askChosen (recovery.Ask head sequence) = some (record { head = head .0; claims = sequence .0 })
+askChosen recovery.NoneDue = none
+
+abbrev pub deadlineGot : Deadline → Option ℕ
+deadlineGot (deadline.At time) = some time
+deadlineGot deadline.Never = none
+
+-- ---- of the calls
+
+-- the refusals are numbered from 1 to this
+abbrev pub lastRefusal : ℕ
+lastRefusal = 9
+
+abbrev pub refusalNumber : Refusal → ℕ
+refusalNumber Shape = 1
+refusalNumber HashLength = 2
+refusalNumber NoBlock = 3
+refusalNumber ReservedSequence = 4
+refusalNumber ZeroHash = 5
+refusalNumber Known = 6
+refusalNumber Full = 7
+refusalNumber NotNext = 8
+refusalNumber HoldsActive = 9
+
+pub data Answer : Type 0 where
+  refused : ℕ → Answer
+  done : Answer
+  slot : ℕ → Answer
+  freed : ℕ → Answer
+  request : (head claims : ℕ) (missing : List ℕ) → Answer
+  noneDue : Answer
+  dueAt : ℕ → Answer
+  neverDue : Answer
+
+abbrev pub outcomeSaid : Outcome → Answer
+outcomeSaid outcome.Done = done
+outcomeSaid (outcome.Refused why) = refused (refusalNumber why)
+
+abbrev pub admittedSaid : Admitted → Answer
+admittedSaid (admitted.Slot new) = slot (new .0)
+admittedSaid (admitted.Refused why) = refused (refusalNumber why)
+
+abbrev pub removedSaid : Removed → Answer
+removedSaid (removed.Freed blocks) = freed blocks
+removedSaid (removed.Refused why) = refused (refusalNumber why)
+
+abbrev pub timedSaid : Timed → List ℕ → Answer
+timedSaid (timed.Request head sequence) missing = request (head .0) (sequence .0) missing
+timedSaid timed.NoneDue missing = noneDue
+timedSaid (timed.Refused why) missing = refused (refusalNumber why)
+
+abbrev pub timerSaid : TimerAnswer → Answer
+timerSaid answer = timedSaid (answer .timed) (answer .missing)
+
+abbrev pub deadlineSaid : DeadlineAnswer → Answer
+deadlineSaid (deadlineAnswer.At time) = dueAt time
+deadlineSaid deadlineAnswer.Never = neverDue
+deadlineSaid (deadlineAnswer.Refused why) = refused (refusalNumber why)

@@ -1,0 +1,93 @@
+-- The caches of a head (01, "Caches"): flag, anchor, missing hash and request time, from the walk of its tip.
+use mathlib.Core.Bool.{Bool, true, false, _&&_}
+use mathlib.Core.List.{List}
+use mathlib.Core.Option.{Option, none, some}
+use Prim.Native.Nat.{ℕ, _*_}
+use lib.Dec.{eqb}
+use lib.ListN.{getD, set, take, drop}
+use Rattle.rules.specs.Common.{if_then_else_, lowest, inOrder}
+use Rattle.rules.specs.Hashes.{hashLength, zeroHash, hashAt, putHash}
+use Rattle.rules.specs.Records.{NONE, Blocks, Heads, slotsOf, tipAt, tailAt, used, stored, withBit0}
+use Rattle.rules.specs.Anchor.{Anchor, connection, tail, locateAnchor}
+
+-- what the caches are kept in; tips and arrival times are not among them
+pub record Caches : Type 0 where
+  pub tails : List ℕ
+  pub missing : List ℕ
+  pub requested : List ℕ
+  pub connected : List ℕ
+
+abbrev pub cachesOf : (tails missing requested connected : List ℕ) → Caches
+cachesOf l m r c = record { tails = l; missing = m; requested = r; connected = c }
+
+abbrev pub caches : Heads → Caches
+caches h = cachesOf (h .tails) (h .missing) (h .requested) (h .connected)
+
+abbrev pub withCaches : Heads → Caches → Heads
+withCaches h c = record { tips = h .tips; tails = c .tails; missing = c .missing; requested = c .requested; arrivals = h .arrivals; connected = c .connected }
+
+-- a stored head with this cached tail
+unfoldable pub waitsAt : (tips tails connected : List ℕ) → ℕ → ℕ → Bool
+waitsAt tips tails connected i k = stored tips connected k && eqb (tailAt tails k) i
+
+-- the lowest stored head with this cached tail; the head itself where there is none
+unfoldable pub knowing : (tips tails connected : List ℕ) → ℕ → ℕ → ℕ
+knowing tips tails connected i k =
+    elim (lowest (waitsAt tips tails connected i) (slotsOf tips)) [ none ↦ k | some j ↦ j ]
+
+-- the missing hash is a part of the arriving block's previous hash where the tail is that block, else of the heads' hashes
+unfoldable pub missingPart : (previous missing : List ℕ) → ℕ → ℕ → ℕ → List ℕ
+missingPart previous missing at arriving k =
+    if eqb at arriving then take hashLength previous else take hashLength (drop (k * hashLength) missing)
+
+abbrev pub connectionKept : Caches → ℕ → ℕ → Caches
+connectionKept c k at = record {
+    tails = set (c .tails) k at;
+    missing = putHash (c .missing) k zeroHash;
+    requested = set (c .requested) k 0;
+    connected = set (c .connected) k (withBit0 (getD (c .connected) k 0) true)
+  }
+
+abbrev pub tailKept : (tips : List ℕ) → Caches → ℕ → ℕ → ℕ → List ℕ → Caches
+tailKept tips c k at arriving previous =
+    let tails = set (c .tails) k at in
+    let connected = set (c .connected) k (withBit0 (getD (c .connected) k 0) false) in
+    record {
+      tails = tails;
+      missing = putHash (c .missing) k (hashAt (missingPart previous (c .missing) at arriving (knowing tips tails connected at k)) 0);
+      requested = c .requested;
+      connected = connected
+    }
+
+unfoldable pub keep : (tips : List ℕ) → Caches → ℕ → Anchor → ℕ → List ℕ → Caches
+keep tips c k (connection at) arriving previous = connectionKept c k at
+keep tips c k (tail at) arriving previous = tailKept tips c k at arriving previous
+
+-- of the head in slot k; the arriving block is NONE_REF where there is none
+unfoldable pub recompute : (parents sequences flags tips : List ℕ) → Caches → ℕ → ℕ → List ℕ → Caches
+recompute parents sequences flags tips c k arriving previous =
+    keep tips c k (locateAnchor parents sequences flags (tipAt tips k)) arriving previous
+
+-- ---- of several heads
+
+-- the lowest head slot with this tip
+unfoldable pub slotOfHead : (tips : List ℕ) → ℕ → Option ℕ
+slotOfHead tips tip = lowest (λ k. used tips k && eqb (tipAt tips k) tip) (slotsOf tips)
+
+unfoldable pub refreshHead : (parents sequences flags tips : List ℕ) → Caches → ℕ → Caches
+refreshHead parents sequences flags tips c tip =
+    elim (slotOfHead tips tip) [ none ↦ c | some k ↦ recompute parents sequences flags tips c k NONE zeroHash ]
+
+unfoldable pub recomputeUsed : (parents sequences flags tips : List ℕ) → ℕ → Caches → Caches
+recomputeUsed parents sequences flags tips k c =
+    if used tips k then recompute parents sequences flags tips c k NONE zeroHash else c
+
+unfoldable pub recomputeAll : (parents sequences flags tips : List ℕ) → Caches → Caches
+recomputeAll parents sequences flags tips c = inOrder (recomputeUsed parents sequences flags tips) (slotsOf tips) c
+
+abbrev pub recomputeHead : Blocks → Heads → ℕ → ℕ → List ℕ → Heads
+recomputeHead b h k arriving previous =
+    withCaches h (recompute (b .parents) (b .sequences) (b .flags) (h .tips) (caches h) k arriving previous)
+
+abbrev pub recomputeHeads : Blocks → Heads → Heads
+recomputeHeads b h = withCaches h (recomputeAll (b .parents) (b .sequences) (b .flags) (h .tips) (caches h))

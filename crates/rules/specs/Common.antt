@@ -1,0 +1,51 @@
+-- What 01 takes for granted: a choice between two, the lowest of the numbers that pass a test, the one that goes
+-- before all others, how many pass, which pass, and one thing after the other.
+use mathlib.Core.Bool.{Bool, true, false}
+use mathlib.Core.List.{List, [], _∷_, _++_}
+use mathlib.Core.Option.{Option, none, some}
+use Prim.Native.Nat.{ℕ, zero, suc, _+_}
+use lib.Dec.{eqb}
+
+infix 10 if_then_else_
+
+abbrev pub if_then_else_ {ℓ} : {A : Type ℓ} → Bool → A → A → A
+if true then a else b = a
+if false then a else b = b
+
+abbrev pub isSome : Option ℕ → Bool
+isSome none = false
+isSome (some i) = true
+
+abbrev pub isAt : Option ℕ → ℕ → Bool
+isAt none k = false
+isAt (some i) k = eqb i k
+
+-- the lowest number below n that passes
+unfoldable pub lowest : (ℕ → Bool) → ℕ → Option ℕ
+lowest test zero = none
+lowest test (suc n) = elim (lowest test n) [ none ↦ if test n then some n else none | some i ↦ some i ]
+
+-- k is taken where nothing was, or where it goes before what was
+unfoldable pub better : (ℕ → ℕ → Bool) → ℕ → Option ℕ → Option ℕ
+better before k none = some k
+better before k (some b) = if before k b then some k else some b
+
+-- of the numbers below n that pass, the one that goes before the others; the lowest of equals
+unfoldable pub best : (ℕ → Bool) → (ℕ → ℕ → Bool) → ℕ → Option ℕ
+best test before zero = none
+best test before (suc n) = if test n then better before n (best test before n) else best test before n
+
+-- how many numbers below n pass
+unfoldable pub countBelow : (ℕ → Bool) → ℕ → ℕ
+countBelow test zero = 0
+countBelow test (suc n) = (if test n then 1 else 0) + countBelow test n
+
+-- the numbers below n that pass, in order
+unfoldable pub allBelow : (ℕ → Bool) → ℕ → List ℕ
+allBelow test zero = []
+allBelow test (suc n) = allBelow test n ++ (if test n then n ∷ [] else [])
+
+-- for each number below n, from 0 up
+unfoldable pub inOrder {ℓ} : {A : Type ℓ} → (ℕ → A → A) → ℕ → A → A
+inOrder act zero a = a
+inOrder act (suc n) a = act n (inOrder act n a)

@@ -1,0 +1,16 @@
+pub mod Common
+pub mod Hashes
+pub mod Records
+pub mod BlockTable
+pub mod Anchor
+pub mod Caches
+pub mod Eviction
+pub mod Admission
+pub mod Removal
+pub mod Promotion
+pub mod Rebuild
+pub mod Timer
+pub mod Rank
+pub mod Answers
+pub mod Calls
+pub mod Marked

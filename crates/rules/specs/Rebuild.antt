@@ -1,0 +1,53 @@
+-- Rebuild and restart (01, "Rebuild"): the heads made anew from the blocks.
+use mathlib.Core.Bool.{Bool, true, false, _&&_}
+use mathlib.Core.List.{List}
+use Prim.Native.Nat.{ℕ, _*_}
+use lib.ListN.{length, replicate}
+use Rattle.rules.specs.Common.{if_then_else_, inOrder}
+use Rattle.rules.specs.Hashes.{hashLength, zeroHash}
+use Rattle.rules.specs.Records.{NONE, Blocks, Heads, Tables, slotsOf, occupied}
+use Rattle.rules.specs.BlockTable.{childless}
+use Rattle.rules.specs.Admission.{insertHead}
+use Rattle.rules.specs.Removal.{recounted}
+
+-- a childless block becomes a head, evicting first when full
+unfoldable pub rebuildAt : ℕ → ℕ → ℕ → Tables → Tables
+rebuildAt arrival activeHead i t =
+    if occupied (t .blocks .sequences) i && childless (t .blocks .parents) (t .blocks .sequences) i
+    then insertHead t i arrival NONE zeroHash activeHead
+    else t
+
+unfoldable pub rebuildHeads : Tables → ℕ → ℕ → Tables
+rebuildHeads t arrival activeHead = inOrder (rebuildAt arrival activeHead) (slotsOf (t .blocks .sequences)) t
+
+-- then counts are set as in removal
+unfoldable pub rebuilt : Tables → ℕ → ℕ → Tables
+rebuilt t arrival activeHead =
+    let u = rebuildHeads t arrival activeHead in
+    record { blocks = recounted (u .blocks); heads = u .heads }
+
+-- ---- all records empty
+
+unfoldable pub emptyBlocks : ℕ → Blocks
+emptyBlocks n = record {
+    hashes = replicate (n * hashLength) 0;
+    parents = replicate n NONE;
+    sequences = replicate n NONE;
+    counts = replicate n 0;
+    flags = replicate n 0
+  }
+
+unfoldable pub emptyHeads : ℕ → Heads
+emptyHeads m = record {
+    tips = replicate m NONE;
+    tails = replicate m NONE;
+    missing = replicate (m * hashLength) 0;
+    requested = replicate m 0;
+    arrivals = replicate m 0;
+    connected = replicate m 0
+  }
+
+-- restart empties the heads, sets the counts first, then rebuilds
+unfoldable pub restarted : Tables → ℕ → ℕ → Tables
+restarted t arrival activeHead =
+    rebuilt (record { blocks = recounted (t .blocks); heads = emptyHeads (length (t .heads .tips)) }) arrival activeHead

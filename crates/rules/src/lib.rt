@@ -1,0 +1,176 @@
+// The types that every crate shares: slots and sequences, each its own type, the two records, and the answers.
+ghost use mathlib.Core.Path.{_≡_};
+ghost use Rattle.rules.specs.Records.{emptyBlock, emptyHead};
+
+// A place in the block table.
+pub struct BlockSlot(pub u32);
+
+// A place in the head table.
+pub struct HeadSlot(pub u32);
+
+// A block's sequence number.
+pub struct Sequence(pub u32);
+
+impl BlockSlot {
+    pub const NONE_REF: u32 = 4294967295;
+}
+
+impl Sequence {
+    pub const NONE_REF: u32 = 4294967295;
+}
+
+pub struct Block {
+    pub hash: [u8; 32],
+    pub parent: BlockSlot,
+    pub sequence: Sequence,
+    pub count: u8,
+    pub flags: u8,
+}
+
+impl Block {
+    pub fn empty() -> Block
+        ensures { λ r. ⌜ r ≡ emptyBlock ⌝ }
+    {
+        Block {
+            hash: [0u8; 32],
+            parent: BlockSlot(BlockSlot::NONE_REF),
+            sequence: Sequence(Sequence::NONE_REF),
+            count: 0,
+            flags: 0,
+        }
+    }
+}
+
+pub struct Head {
+    pub tip: BlockSlot,
+    pub tail: BlockSlot,
+    pub missing: [u8; 32],
+    pub requested: u64,
+    pub arrival: u64,
+    pub connected: u8,
+}
+
+impl Head {
+    pub fn empty() -> Head
+        ensures { λ r. ⌜ r ≡ emptyHead ⌝ }
+    {
+        Head {
+            tip: BlockSlot(BlockSlot::NONE_REF),
+            tail: BlockSlot(BlockSlot::NONE_REF),
+            missing: [0u8; 32],
+            requested: 0,
+            arrival: 0,
+            connected: 0,
+        }
+    }
+}
+
+pub enum BlockStatus {
+    Stored,
+    Connected,
+    Active,
+}
+
+// A block slot, or none.
+pub enum Found {
+    At(BlockSlot),
+    Nothing,
+}
+
+// A head slot, or none.
+pub enum FoundHead {
+    At(HeadSlot),
+    Nothing,
+}
+
+// A block, or none: `there` tells which. Where there is none the block is the empty one.
+pub struct Got {
+    pub there: bool,
+    pub block: Block,
+}
+
+// The count of a block, or none.
+pub enum Counted {
+    Count(u8),
+    Nothing,
+}
+
+// The status of a block, or none.
+pub enum StatusFound {
+    Status(BlockStatus),
+    Nothing,
+}
+
+// Where the parent walk of a tip ends.
+pub enum Located {
+    Connection(BlockSlot),
+    Tail(BlockSlot),
+}
+
+// The retry span of a timer or deadline call.
+pub enum Span {
+    Ticks(u64),
+    Unset,
+}
+
+// A head to ask for its missing parent, with the sequence that it claims, or none.
+pub enum Recovery {
+    Ask(HeadSlot, Sequence),
+    NoneDue,
+}
+
+// The least due time, or none.
+pub enum Deadline {
+    At(u64),
+    Never,
+}
+
+// Why a call is refused.
+pub enum Refusal {
+    Shape,
+    HashLength,
+    NoBlock,
+    ReservedSequence,
+    ZeroHash,
+    Known,
+    Full,
+    NotNext,
+    HoldsActive,
+}
+
+// The answer of fresh, promote and restart.
+pub enum Outcome {
+    Done,
+    Refused(Refusal),
+}
+
+// The answer of admit.
+pub enum Admitted {
+    Slot(BlockSlot),
+    Refused(Refusal),
+}
+
+// The answer of remove.
+pub enum Removed {
+    Freed(u32),
+    Refused(Refusal),
+}
+
+// The answer of timer; the hash that is asked for stands beside it.
+pub enum Timed {
+    Request(HeadSlot, Sequence),
+    NoneDue,
+    Refused(Refusal),
+}
+
+pub struct TimerAnswer {
+    pub timed: Timed,
+    pub missing: [u8; 32],
+}
+
+// The answer of the deadline call.
+pub enum DeadlineAnswer {
+    At(u64),
+    Never,
+    Refused(Refusal),
+}

@@ -1,8 +1,8 @@
 // Total reads and writes of lent buffers: past the end a read gives what an empty record has, and a write does nothing.
 // Hashes by value: read, written, and compared from the first byte on.
 ghost use mathlib.Core.Path.{_≡_};
-ghost use lib.ListN.{length, getD, set};
-ghost use Rattle.rules.specs.Hashes.{bytesFrom, hashAt, putHash, sameHash, hashLess, hashLength};
+ghost use lib.ListN.{getD, set};
+ghost use Rattle.rules.specs.Hashes.{hashAt, putHash, sameHash, hashLess};
 ghost use Rattle.rules.specs.Records.{NONE, slotsOf};
 
 use rules::BlockSlot;
@@ -41,7 +41,12 @@ pub fn put_word(words: &mut [u32], at: u32, value: u32)
 pub fn byte_at(bytes: &[u8], at: u32) -> u8
     ensures { λ r. ⌜ r ≡ getD (now (bytes .entry)) at 0 ⌝ }
 {
-    let k = at as usize;
+    byte_from(bytes, at as usize)
+}
+
+fn byte_from(bytes: &[u8], k: usize) -> u8
+    ensures { λ r. ⌜ r ≡ getD (now (bytes .entry)) k 0 ⌝ }
+{
     if k < bytes.len() {
         bytes[k]
     } else {
@@ -52,7 +57,12 @@ pub fn byte_at(bytes: &[u8], at: u32) -> u8
 pub fn put_byte(bytes: &mut [u8], at: u32, value: u8)
     ensures { λ _. ⌜ now (bytes .exit) ≡ set (now (bytes .entry)) at value ⌝ }
 {
-    let k = at as usize;
+    put_byte_from(bytes, at as usize, value);
+}
+
+fn put_byte_from(bytes: &mut [u8], k: usize, value: u8)
+    ensures { λ _. ⌜ now (bytes .exit) ≡ set (now (bytes .entry)) k value ⌝ }
+{
     if k < bytes.len() {
         bytes[k] = value;
     }
@@ -86,10 +96,7 @@ pub fn hash_at(bytes: &[u8], at: u32) -> [u8; 32]
     let mut hash = [0u8; 32];
     let mut k = 0;
     while k < 32 {
-        let i = from + k;
-        if i < bytes.len() {
-            hash[k] = bytes[i];
-        }
+        hash[k] = byte_from(bytes, from + k);
         k += 1;
     }
     hash
@@ -101,10 +108,7 @@ pub fn put_hash(bytes: &mut [u8], at: u32, hash: [u8; 32])
     let from = at as usize * 32;
     let mut k = 0;
     while k < 32 {
-        let i = from + k;
-        if i < bytes.len() {
-            bytes[i] = hash[k];
-        }
+        put_byte_from(bytes, from + k, hash[k]);
         k += 1;
     }
 }

@@ -34,14 +34,14 @@ refusal (dueAt time) = 0
 refusal neverDue = 0
 
 -- fresh over tables of n and m
-freshOf : ℕ → ℕ → ℕ
+unfoldable pub freshOf : ℕ → ℕ → ℕ
 freshOf n m = refusal (fresh (freshState n m) .answer)
 
 -- admit of a sequence on fresh tables
-admitOf : ℕ → ℕ
+unfoldable pub admitOf : ℕ → ℕ
 admitOf sequence = refusal (admit (freshState 4 2) sequence (replicate hashLength 10) (replicate hashLength 9) 1 .answer)
 
-pub marks : List Mark
+unfoldable pub marks : List Mark
 marks =
     mark (due 0 5) 0 ∷ mark (due 7 5) 12 ∷ mark (due maxTime 1) maxTime
     ∷ mark (adjusted 255 (pos 1)) 255 ∷ mark (adjusted 200 (pos 127)) 255 ∷ mark (adjusted 1 (pos 127)) 128

@@ -1,49 +1,58 @@
+-- The bytes before `k` are read.
+use borrow.Author.Needs.{needs}
+use native.Mathlib.Omega.{arith}
+use Prim.Native.Nat.{ℕ, _≤_, _<_, _-_, _+_, _*_}
+use mathlib.Core.Path.{_≡_, refl, sym, _∙_}
+use mathlib.Core.Logic.{_≢_}
+use lib.ListN.{length, getD, length-set}
+use lib.Seq.{getD-set-same, getD-set-other}
+use Rattle.rules.proofs.Splits.{same?}
+use Rattle.rules.proofs.Hashes.{hash-is}
 use Rattle.cells.proofs.hash_at.Statement.{statement}
 use Rattle.cells.proofs.hash_at.Tie as tie
-use Rattle.cells.proofs.hash_at.Reads as reads
-use Rattle.cells.proofs.hash_at.Lts as lts
 
 abbrev Inv-loop : tie.InvT-loop
-Inv-loop bytes at from hash₀ k₀ hash k = ?
+Inv-loop bytes at from hash₀ k₀ hash k = (from ≡ at * 32) × ((k ≤ 32) × ((length hash ≡ 32) × ((j : ℕ) → j < k → getD hash j 0 ≡ getD bytes (from + j) 0)))
 
 abbrev μ-loop : tie.MeasureT-loop
-μ-loop bytes at from hash₀ k₀ hash k = ?
+μ-loop bytes at from hash₀ k₀ hash k = 32 - k
 
--- src/lib.rt:85:16
 mul-from : tie.Need-mul-from Inv-loop μ-loop
-mul-from c = ?
+mul-from c = omega arith
 
--- src/lib.rt:88:5
 loop-holds : tie.Need-loop-holds Inv-loop μ-loop
-loop-holds c = ?
+loop-holds c = (refl, (omega arith, (refl, λ j l. absurd (omega arith))))
 
--- src/lib.rt:89:17
-add-i : tie.Need-add-i Inv-loop μ-loop
-add-i c = ?
+add-byte-from : tie.Need-add-byte-from Inv-loop μ-loop
+add-byte-from c = omega arith
 
--- src/lib.rt:91:23
-shared-slice-read-hash : tie.Need-shared-slice-read-hash Inv-loop μ-loop
-shared-slice-read-hash c = ?
+byte-from-requires : tie.Need-byte-from-requires Inv-loop μ-loop
+byte-from-requires c κs = search needs
 
--- src/lib.rt:91:13
 array-write-hash : tie.Need-array-write-hash Inv-loop μ-loop
-array-write-hash c = ?
+array-write-hash c = omega arith
 
--- src/lib.rt:93:9
 add-k : tie.Need-add-k Inv-loop μ-loop
-add-k c = ?
+add-k c = omega arith
 
--- src/lib.rt:88:5
 loop-less : tie.Need-loop-less Inv-loop μ-loop
-loop-less c = ?
+loop-less c = omega arith
 
--- src/lib.rt:88:5
 loop-again : tie.Need-loop-again Inv-loop μ-loop
-loop-again c = ?
+loop-again c =
+    let l = c .before .before .loop in
+    let h : length (l .hash) ≡ 32 = l .inv .1 .1 .0 in
+    ( refl
+    , ( omega arith
+      , ( length-set (l .hash) (l .k) (c .byte-from .result) ∙ h
+        , λ j lt. same? j (l .k)
+            (λ q. rw q (getD-set-same (l .hash) (l .k) (c .byte-from .result) 0 (omega arith) ∙ c .byte-from .ensures))
+            (λ ne. getD-set-other (l .hash) (l .k) j (c .byte-from .result) 0 ne ∙ l .inv .1 .1 .1 j (omega arith)))))
 
--- src/lib.rt:82:1
 returns : tie.Need-returns Inv-loop μ-loop
-returns c = ?
+returns c =
+    let l = c .before .loop in
+    hash-is (c .before .before .before .args .bytes .now) (l .hash) (c .before .before .before .args .at) (l .inv .1 .1 .0) (λ k lt. l .inv .1 .1 .1 k (omega arith))
 
 pub hash-at-spec : {M : Type 1} → statement M
 hash-at-spec =
@@ -53,8 +62,8 @@ hash-at-spec =
     μ-loop
     mul-from
     loop-holds
-    add-i
-    shared-slice-read-hash
+    add-byte-from
+    byte-from-requires
     array-write-hash
     add-k
     loop-less

@@ -1,57 +1,71 @@
+-- The bytes before `k` agree.
+use borrow.Author.Needs.{needs}
+use native.Mathlib.Omega.{arith}
+use Prim.Native.Nat.{ℕ, _≤_, _<_, _-_, _+_}
+use mathlib.Core.Path.{_≡_, refl, sym, _∙_}
+use lib.ListN.{length, getD, drop}
+use Rattle.rules.specs.Hashes.{hashLess}
+use Rattle.rules.proofs.Hashes.{less-below, less-above, less-goes, less-end}
 use Rattle.cells.proofs.hash_less.Statement.{statement}
 use Rattle.cells.proofs.hash_less.Tie as tie
-use Rattle.cells.proofs.hash_less.Reads as reads
-use Rattle.cells.proofs.hash_less.Lts as lts
 
 abbrev Inv-loop : tie.InvT-loop
-Inv-loop a b k₀ k = ?
+Inv-loop a b k₀ k = (k ≤ 32) × (hashLess a b ≡ hashLess (drop k a) (drop k b))
 
 abbrev μ-loop : tie.MeasureT-loop
-μ-loop a b k₀ k = ?
+μ-loop a b k₀ k = 32 - k
 
--- src/lib.rt:129:5
 loop-holds : tie.Need-loop-holds Inv-loop μ-loop
-loop-holds c = ?
+loop-holds c = (omega arith, refl)
 
--- src/lib.rt:130:12
 array-read-if1 : tie.Need-array-read-if1 Inv-loop μ-loop
-array-read-if1 c = ?
+array-read-if1 c = omega arith
 
--- src/lib.rt:130:19
 array-read-if1-2 : tie.Need-array-read-if1-2 Inv-loop μ-loop
-array-read-if1-2 c = ?
+array-read-if1-2 c = omega arith
 
--- src/lib.rt:131:13
 returns : tie.Need-returns Inv-loop μ-loop
-returns c = ?
+returns c =
+    let l = c .before .before .loop in
+    let a = c .before .before .before .args in
+    let x : length (a .t1) ≡ 32 = search needs in
+    let y : length (a .t2) ≡ 32 = search needs in
+    sym (l .inv .1 ∙ less-below (a .t1) (a .t2) (l .k) (omega arith) (omega arith) (c .if1 .taken))
 
--- src/lib.rt:133:12
 array-read-if2 : tie.Need-array-read-if2 Inv-loop μ-loop
-array-read-if2 c = ?
+array-read-if2 c = omega arith
 
--- src/lib.rt:133:19
 array-read-if2-2 : tie.Need-array-read-if2-2 Inv-loop μ-loop
-array-read-if2-2 c = ?
+array-read-if2-2 c = omega arith
 
--- src/lib.rt:134:13
 returns-2 : tie.Need-returns-2 Inv-loop μ-loop
-returns-2 c = ?
+returns-2 c =
+    let l = c .before .before .before .loop in
+    let a = c .before .before .before .before .args in
+    let x : length (a .t1) ≡ 32 = search needs in
+    let y : length (a .t2) ≡ 32 = search needs in
+    sym (l .inv .1 ∙ less-above (a .t1) (a .t2) (l .k) (omega arith) (omega arith) (c .if2 .taken))
 
--- src/lib.rt:136:9
 add-k : tie.Need-add-k Inv-loop μ-loop
-add-k c = ?
+add-k c = omega arith
 
--- src/lib.rt:129:5
 loop-less : tie.Need-loop-less Inv-loop μ-loop
-loop-less c = ?
+loop-less c = omega arith
 
--- src/lib.rt:129:5
 loop-again : tie.Need-loop-again Inv-loop μ-loop
-loop-again c = ?
+loop-again c =
+    let l = c .before .before .before .loop in
+    let a = c .before .before .before .before .args in
+    let x : length (a .t1) ≡ 32 = search needs in
+    let y : length (a .t2) ≡ 32 = search needs in
+    (omega arith, l .inv .1 ∙ less-goes (a .t1) (a .t2) (l .k) (omega arith) (omega arith) (c .before .if1 .left) (c .if2 .left))
 
--- src/lib.rt:125:1
 returns-3 : tie.Need-returns-3 Inv-loop μ-loop
-returns-3 c = ?
+returns-3 c =
+    let l = c .before .loop in
+    let a = c .before .before .args in
+    let x : length (a .t1) ≡ 32 = search needs in
+    sym (l .inv .1 ∙ less-end (a .t1) (a .t2) (l .k) (omega arith))
 
 pub hash-less-spec : {M : Type 1} → statement M
 hash-less-spec =

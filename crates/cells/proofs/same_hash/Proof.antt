@@ -1,45 +1,58 @@
+-- The bytes before `k` agree.
+use borrow.Author.Needs.{needs}
+use native.Mathlib.Omega.{arith}
+use Prim.Native.Nat.{ℕ, _≤_, _<_, _-_, _+_}
+use mathlib.Core.Path.{_≡_, refl, sym, _∙_}
+use lib.ListN.{length, getD, drop}
+use Rattle.rules.specs.Hashes.{sameHash}
+use Rattle.rules.proofs.Hashes.{same-goes, same-stops, same-end}
 use Rattle.cells.proofs.same_hash.Statement.{statement}
 use Rattle.cells.proofs.same_hash.Tie as tie
-use Rattle.cells.proofs.same_hash.Reads as reads
-use Rattle.cells.proofs.same_hash.Lts as lts
 
 abbrev Inv-loop : tie.InvT-loop
-Inv-loop a b k₀ k = ?
+Inv-loop a b k₀ k = (k ≤ 32) × (sameHash a b ≡ sameHash (drop k a) (drop k b))
 
 abbrev μ-loop : tie.MeasureT-loop
-μ-loop a b k₀ k = ?
+μ-loop a b k₀ k = 32 - k
 
--- src/lib.rt:116:5
 loop-holds : tie.Need-loop-holds Inv-loop μ-loop
-loop-holds c = ?
+loop-holds c = (omega arith, refl)
 
--- src/lib.rt:117:12
 array-read-if1 : tie.Need-array-read-if1 Inv-loop μ-loop
-array-read-if1 c = ?
+array-read-if1 c = omega arith
 
--- src/lib.rt:117:20
 array-read-if1-2 : tie.Need-array-read-if1-2 Inv-loop μ-loop
-array-read-if1-2 c = ?
+array-read-if1-2 c = omega arith
 
--- src/lib.rt:118:13
 returns : tie.Need-returns Inv-loop μ-loop
-returns c = ?
+returns c =
+    let l = c .before .before .loop in
+    let a = c .before .before .before .args in
+    let x : length (a .t1) ≡ 32 = search needs in
+    let y : length (a .t2) ≡ 32 = search needs in
+    sym (l .inv .1 ∙ same-stops (a .t1) (a .t2) (l .k) (omega arith) (omega arith) (c .if1 .taken))
 
--- src/lib.rt:120:9
 add-k : tie.Need-add-k Inv-loop μ-loop
-add-k c = ?
+add-k c = omega arith
 
--- src/lib.rt:116:5
 loop-less : tie.Need-loop-less Inv-loop μ-loop
-loop-less c = ?
+loop-less c = omega arith
 
--- src/lib.rt:116:5
 loop-again : tie.Need-loop-again Inv-loop μ-loop
-loop-again c = ?
+loop-again c =
+    let l = c .before .before .loop in
+    let a = c .before .before .before .args in
+    let x : length (a .t1) ≡ 32 = search needs in
+    let y : length (a .t2) ≡ 32 = search needs in
+    (omega arith, l .inv .1 ∙ same-goes (a .t1) (a .t2) (l .k) (omega arith) (omega arith) (c .if1 .left))
 
--- src/lib.rt:112:1
 returns-2 : tie.Need-returns-2 Inv-loop μ-loop
-returns-2 c = ?
+returns-2 c =
+    let l = c .before .loop in
+    let a = c .before .before .args in
+    let x : length (a .t1) ≡ 32 = search needs in
+    let y : length (a .t2) ≡ 32 = search needs in
+    sym (l .inv .1 ∙ same-end (a .t1) (a .t2) (l .k) (omega arith) (omega arith))
 
 pub same-hash-spec : {M : Type 1} → statement M
 same-hash-spec =

@@ -1,0 +1,6 @@
+pub mod Splits
+pub mod Cells
+pub mod Search
+pub mod Hashes
+pub mod Walks
+pub mod Marked

@@ -1,0 +1,50 @@
+//! Copies the original's files, unchanged, to the build folder, each with one line after it that
+//! declares a child module of ours, which so reaches the private fields and functions; and links
+//! the port's static library.
+
+use std::path::Path;
+use std::{env, fs, process};
+
+/// The original's file, and what stands after it. `HERE` is this package's folder.
+const FILES: [(&str, &str); 3] = [
+    ("blocks", r#"#[path = "HERE/src/original/blocks.rs"] pub(crate) mod judged;"#),
+    ("chain_heads", r#"#[path = "HERE/src/original/heads.rs"] pub(crate) mod judged;"#),
+    (
+        "branch_value",
+        r#"#[path = "HERE/src/original/rank.rs"] pub(crate) mod judged; use judged::moonblokz_chain_types;"#,
+    ),
+];
+
+fn main() {
+    let here = env::var("CARGO_MANIFEST_DIR").expect("cargo sets it");
+    let out = env::var("OUT_DIR").expect("cargo sets it");
+    let source = Path::new(&here).join("../../shared/docs/src/src");
+    let archive = Path::new(&here).join("../target/staticlib");
+
+    let mut modules = String::new();
+    for (name, after) in FILES {
+        let file = source.join(name).with_extension("rs");
+        let text = fs::read_to_string(&file)
+            .unwrap_or_else(|e| stop(&format!("the original's {}: {e}", file.display())));
+        let copy = Path::new(&out).join(name).with_extension("rs");
+        let whole = format!("{text}\n{}\n", after.replace("HERE", &here));
+        fs::write(&copy, whole).expect("the build folder is written");
+        modules += &format!("#[path = {copy:?}]\n#[allow(dead_code)]\nmod {name};\n");
+        println!("cargo::rerun-if-changed={}", file.display());
+    }
+    fs::write(Path::new(&out).join("modules.rs"), modules).expect("the build folder is written");
+
+    let library = archive.join("libprobe.a");
+    if !library.exists() {
+        stop(&format!("no {}: `rt staticlib probe` makes it", library.display()));
+    }
+    println!("cargo::rerun-if-changed=build.rs");
+    println!("cargo::rerun-if-changed={}", library.display());
+    println!("cargo::rustc-link-search=native={}", archive.display());
+    println!("cargo::rustc-link-lib=static=probe");
+}
+
+fn stop(message: &str) -> ! {
+    println!("cargo::error={message}");
+    process::exit(1)
+}

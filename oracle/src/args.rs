@@ -1,0 +1,77 @@
+//! The arguments of the compared functions, all of them at once: each function takes some. And a
+//! walk over the fields of arguments and tables, for what must treat each kind of field alike.
+
+use crate::show::{hex, reference};
+use crate::tables::{BlockStatus, Hash, Tables};
+
+#[derive(Debug, Clone)]
+pub struct Args {
+    pub slot: u32,
+    pub parent: u32,
+    pub sequence: u32,
+    pub hash: Hash,
+    pub previous: Hash,
+    pub change: i8,
+    pub count: u8,
+    pub flags: u8,
+    pub status: BlockStatus,
+    pub value: bool,
+}
+
+/// A field of the tables or the arguments.
+pub enum Field<'a> {
+    BlockSlot(&'a mut u32),
+    Sequence(&'a mut u32),
+    Byte(&'a mut u8),
+    Time(&'a mut u64),
+    Change(&'a mut i8),
+    Hash(&'a mut [u8]),
+}
+
+impl Args {
+    pub fn each_field(&mut self, see: &mut impl FnMut(Field)) {
+        see(Field::BlockSlot(&mut self.slot));
+        see(Field::BlockSlot(&mut self.parent));
+        see(Field::Sequence(&mut self.sequence));
+        see(Field::Hash(&mut self.hash));
+        see(Field::Hash(&mut self.previous));
+        see(Field::Change(&mut self.change));
+        see(Field::Byte(&mut self.count));
+        see(Field::Byte(&mut self.flags));
+    }
+}
+
+impl Args {
+    /// The arguments by name, as they are shown.
+    pub fn named(&self) -> [(&'static str, String); 10] {
+        [
+            ("slot", reference(self.slot)),
+            ("parent", reference(self.parent)),
+            ("sequence", reference(self.sequence)),
+            ("hash", hex(&self.hash)),
+            ("previous", hex(&self.previous)),
+            ("change", self.change.to_string()),
+            ("count", self.count.to_string()),
+            ("flags", format!("{:08b}", self.flags)),
+            ("status", format!("{:?}", self.status)),
+            ("value", self.value.to_string()),
+        ]
+    }
+}
+
+impl Tables {
+    pub fn each_field(&mut self, see: &mut impl FnMut(Field)) {
+        self.hashes.chunks_exact_mut(32).for_each(|hash| see(Field::Hash(hash)));
+        self.parents.iter_mut().for_each(|slot| see(Field::BlockSlot(slot)));
+        self.sequences.iter_mut().for_each(|sequence| see(Field::Sequence(sequence)));
+        self.counts.iter_mut().for_each(|count| see(Field::Byte(count)));
+        self.flags.iter_mut().for_each(|flags| see(Field::Byte(flags)));
+        self.tips.iter_mut().for_each(|slot| see(Field::BlockSlot(slot)));
+        self.tails.iter_mut().for_each(|slot| see(Field::BlockSlot(slot)));
+        self.missing.chunks_exact_mut(32).for_each(|hash| see(Field::Hash(hash)));
+        self.requested.iter_mut().for_each(|time| see(Field::Time(time)));
+        self.arrivals.iter_mut().for_each(|time| see(Field::Time(time)));
+        self.connected.iter_mut().for_each(|flags| see(Field::Byte(flags)));
+        see(Field::BlockSlot(&mut self.active));
+    }
+}

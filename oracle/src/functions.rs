@@ -1,0 +1,93 @@
+//! The compared functions, a line each, and one comparison for all: both sides run on copies of the
+//! same tables with the same arguments, and the answers and every byte of the tables must agree.
+
+use crate::args::Args;
+use crate::tables::Tables;
+use crate::{original, port};
+use std::fmt::Debug;
+
+pub struct Function {
+    pub name: &'static str,
+    /// The names of the arguments that it takes.
+    pub takes: &'static [&'static str],
+    /// Whether the call is within the comparison: elsewhere the original panics.
+    pub compares: fn(&Tables, &Args) -> bool,
+    pub differ: fn(&Tables, &Args) -> Option<Difference>,
+}
+
+/// One call on one table.
+#[derive(Clone)]
+pub struct Case {
+    pub function: &'static Function,
+    pub tables: Tables,
+    pub args: Args,
+}
+
+impl Case {
+    /// What differs, where the call is within the comparison.
+    pub fn difference(&self) -> Option<Difference> {
+        if !(self.function.compares)(&self.tables, &self.args) {
+            return None;
+        }
+        (self.function.differ)(&self.tables, &self.args)
+    }
+}
+
+/// What each side answered and left.
+pub struct Difference {
+    pub original: (String, Tables),
+    pub port: (String, Tables),
+}
+
+/// `function!(name(arguments))` compares the functions of this name of both sides.
+macro_rules! function {
+    ($name:ident($($taken:ident),*)) => { function!($name($($taken),*) where |_, _| true) };
+    ($name:ident($($taken:ident),*) where $compares:expr) => {
+        Function {
+            name: stringify!($name),
+            takes: &[$(stringify!($taken)),*],
+            compares: $compares,
+            differ: |tables, _args| {
+                compare(
+                    tables,
+                    |t| original::$name(t, $(_args.$taken),*),
+                    |t| port::$name(t, $(_args.$taken),*),
+                )
+            },
+        }
+    };
+}
+
+pub static FUNCTIONS: [Function; 16] = [
+    function!(hash_less(hash, previous)),
+    function!(find(sequence, hash)),
+    function!(next_free_index()),
+    function!(find_parent(previous, sequence)),
+    function!(get(slot)),
+    function!(head_ref_count(slot)),
+    function!(status(slot)),
+    function!(mark_subtree(slot)),
+    function!(walks_to_active_chain(slot)),
+    function!(adjust_head_ref_count(slot, change)),
+    function!(set_head_ref_count(slot, count)),
+    function!(set_on_active_chain(slot, value)),
+    function!(set_status(slot, status)),
+    function!(insert_at(slot, hash, parent, sequence, count, flags) where |t, a| (a.slot as usize) < t.n()),
+    function!(delete(slot)),
+    function!(resolve_parent_ref(slot, parent)),
+];
+
+fn compare<R: PartialEq + Debug>(
+    tables: &Tables,
+    original: impl FnOnce(&mut Tables) -> R,
+    port: impl FnOnce(&mut Tables) -> R,
+) -> Option<Difference> {
+    let mut judged = tables.clone();
+    let mut ported = tables.clone();
+    let verdict = original(&mut judged);
+    let answer = port(&mut ported);
+    (verdict != answer || judged != ported).then(|| Difference {
+        original: (format!("{verdict:?}"), judged),
+        port: (format!("{answer:?}"), ported),
+    })
+}

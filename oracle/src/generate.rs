@@ -1,0 +1,350 @@
+//! Random tables and arguments: tables that look like reached ones, such tables with some damage,
+//! and tables of arbitrary fields; arguments that meet them and arguments that do not.
+
+use crate::args::Args;
+use crate::random::Random;
+use crate::tables::{Block, BlockStatus, Hash, Head, NONE_REF, Tables};
+
+const BLOCK_SLOTS: [(usize, usize); 12] = [
+    (1, 60),
+    (2, 80),
+    (3, 120),
+    (4, 150),
+    (5, 150),
+    (6, 150),
+    (8, 130),
+    (12, 100),
+    (33, 40),
+    (64, 17),
+    (256, 2),
+    (1024, 1),
+];
+const HEAD_SLOTS: [(usize, usize); 7] =
+    [(2, 300), (3, 250), (4, 200), (5, 130), (8, 100), (16, 18), (64, 2)];
+
+/// The highest sequence that a block can have.
+const TOP: u32 = NONE_REF - 1;
+
+const ON_ACTIVE_CHAIN: u8 = 0b1;
+const STATUS_ACTIVE: u8 = 0b100;
+
+pub fn tables(r: &mut Random) -> Tables {
+    let n = r.weighted(&BLOCK_SLOTS);
+    let m = r.weighted(&HEAD_SLOTS);
+    match r.below(10) {
+        0..=3 => reached(r, n, m),
+        4..=7 => {
+            let mut t = reached(r, n, m);
+            for _ in 0..1 + r.below(n.min(6)) {
+                damage(r, &mut t);
+            }
+            t
+        }
+        _ => arbitrary(r, n, m),
+    }
+}
+
+/// Arguments for these tables. The sequence and the hash are often those of one block, or, for a
+/// parent to be found, the sequence one higher.
+pub fn args(r: &mut Random, t: &Tables) -> Args {
+    let block = t.block(r.below(t.n()));
+    let hash = hash_near(r, t, block.hash);
+    let previous = if r.percent(50) { hash_near(r, t, block.hash) } else { hash_near(r, t, hash) };
+    let sequence = match r.below(10) {
+        0..=3 => block.sequence,
+        4..=7 => block.sequence.wrapping_add(1),
+        _ => sequence(r, t),
+    };
+    Args {
+        slot: slot(r, t.n()),
+        parent: slot(r, t.n()),
+        sequence,
+        hash,
+        previous,
+        change: if r.percent(50) { r.pick(&[-128, -127, -1, 0, 1, 127]) } else { r.word() as i8 },
+        count: byte(r),
+        flags: byte(r),
+        status: r.pick(&[BlockStatus::Stored, BlockStatus::Connected, BlockStatus::Active]),
+        value: r.percent(50),
+    }
+}
+
+/// A block slot, in range three times in four, and otherwise one that a wrong width would take for
+/// one in range, or any.
+fn slot(r: &mut Random, n: usize) -> u32 {
+    let inside = r.below(n) as u32;
+    match r.below(16) {
+        0 => n as u32,
+        1 => n as u32 + 1,
+        2 => NONE_REF,
+        3 => inside.wrapping_add(1 << r.pick(&[8, 16, 24, 27, 29, 30, 31])),
+        4 => r.word() as u32,
+        _ => inside,
+    }
+}
+
+fn sequence(r: &mut Random, t: &Tables) -> u32 {
+    match r.below(8) {
+        0 => 0,
+        1 => TOP,
+        2 => NONE_REF,
+        3 => r.word() as u32,
+        4 => r.below(4) as u32,
+        5 => t.sequences[r.below(t.n())].wrapping_sub(1),
+        6 => t.sequences[r.below(t.n())].wrapping_add(1),
+        _ => t.sequences[r.below(t.n())],
+    }
+}
+
+fn byte(r: &mut Random) -> u8 {
+    if r.percent(50) { r.pick(&[0, 1, 2, 127, 128, 254, 255]) } else { r.word() as u8 }
+}
+
+fn time(r: &mut Random) -> u64 {
+    match r.below(8) {
+        0..=2 => 0,
+        3..=5 => r.below(20) as u64,
+        6 => u64::MAX - r.below(20) as u64,
+        _ => r.word(),
+    }
+}
+
+/// Often the hash given; else one that differs in a byte, mostly the first or the last, another of
+/// the table's, or any.
+fn hash_near(r: &mut Random, t: &Tables, hash: Hash) -> Hash {
+    match r.below(10) {
+        0 | 1 => {
+            let mut other = hash;
+            let any = r.below(32);
+            let at = r.pick(&[0, 0, 0, 31, 31, 31, any]);
+            other[at] = other[at].wrapping_add(r.pick(&[1, 255, 128]));
+            if r.percent(25) {
+                other[31 - at] = other[31 - at].wrapping_sub(1);
+            }
+            other
+        }
+        2 => t.block(r.below(t.n())).hash,
+        3 => t.head(r.below(t.m())).missing,
+        4 => edge_hash(r),
+        _ => hash,
+    }
+}
+
+fn edge_hash(r: &mut Random) -> Hash {
+    let any = any_hash(r);
+    r.pick(&[[0; 32], [255; 32], any])
+}
+
+fn any_hash(r: &mut Random) -> Hash {
+    let mut hash = [0; 32];
+    hash.chunks_exact_mut(8).for_each(|part| part.copy_from_slice(&r.word().to_le_bytes()));
+    hash
+}
+
+/// Distinct hashes of one table, which differ in the first bytes, in the last, or everywhere.
+struct Hashes {
+    base: Hash,
+    made: u16,
+    first: bool,
+    last: bool,
+}
+
+impl Hashes {
+    fn new(r: &mut Random) -> Hashes {
+        let base = edge_hash(r);
+        let (first, last) = r.pick(&[(true, false), (false, true), (true, true), (false, false)]);
+        Hashes { base, made: 0, first, last }
+    }
+
+    fn next(&mut self, r: &mut Random) -> Hash {
+        self.made += 1;
+        let [high, low] = self.made.to_be_bytes();
+        let mut hash = if self.first || self.last { self.base } else { any_hash(r) };
+        if self.first {
+            hash[..2].copy_from_slice(&[low, high]);
+        }
+        if self.last {
+            hash[30..].copy_from_slice(&[high, 255 - low]);
+        }
+        hash
+    }
+}
+
+/// Tables as calls could have left them: consistent trees, an active chain or none, right counts,
+/// and a head for each childless block that there is room for.
+fn reached(r: &mut Random, n: usize, m: usize) -> Tables {
+    let mut t = Tables::empty(n, m);
+    let mut hashes = Hashes::new(r);
+    let mut order: Vec<usize> = (0..n).collect();
+    if r.percent(70) {
+        r.shuffle(&mut order);
+    }
+    let blocks = match r.below(20) {
+        0 => 0,
+        1..=8 => n,
+        _ => r.below(n + 1),
+    };
+    order.truncate(blocks);
+    plant(r, &mut t, &order, &mut hashes);
+    if blocks > 0 && r.percent(60) {
+        t.active = r.pick(&order) as u32;
+        each_ancestor(&t.clone(), t.active, |slot| {
+            t.flags[slot] |= ON_ACTIVE_CHAIN | STATUS_ACTIVE;
+            t.flags[slot] &= !0b10;
+        });
+    }
+    let children = children(&t);
+    for &slot in &order {
+        t.counts[slot] = children[slot].clamp(1, 255) as u8;
+    }
+    order.retain(|&slot| children[slot] == 0);
+    raise_heads(r, &mut t, &order, &mut hashes);
+    t
+}
+
+/// Puts a block in each of the slots, in this order, each a root or the child of an earlier one.
+fn plant(r: &mut Random, t: &mut Tables, order: &[usize], hashes: &mut Hashes) {
+    let roots = r.pick(&[0, 5, 25]);
+    let forks = r.pick(&[0, 10, 50, 100]);
+    let lowest = match r.below(4) {
+        0 => 0,
+        1 => TOP - r.below(order.len() + 1) as u32,
+        2 => r.word() as u32 % TOP,
+        _ => r.below(10) as u32,
+    };
+    for (placed, &slot) in order.iter().enumerate() {
+        let parent = match placed {
+            0 => None,
+            _ if r.percent(roots) => None,
+            _ if r.percent(forks) => Some(order[r.below(placed)]),
+            _ => Some(order[placed - 1]),
+        };
+        let parent = parent.filter(|&parent| t.sequences[parent] < TOP);
+        let block = Block {
+            hash: hashes.next(r),
+            parent: parent.map_or(NONE_REF, |parent| parent as u32),
+            sequence: match parent {
+                Some(parent) => t.sequences[parent] + 1,
+                None => lowest.saturating_add(r.below(3) as u32).min(TOP),
+            },
+            count: 0,
+            flags: r.pick(&[0, 0, 0, 0b10, 0b11_1000, 0b1100_0000]),
+        };
+        t.set_block(slot, block);
+    }
+}
+
+/// A head in a random place for each childless block, while there is room.
+fn raise_heads(r: &mut Random, t: &mut Tables, childless: &[usize], hashes: &mut Hashes) {
+    let mut places: Vec<usize> = (0..t.m()).collect();
+    if r.percent(50) {
+        r.shuffle(&mut places);
+    }
+    let previous: Vec<Hash> = childless.iter().map(|_| hashes.next(r)).collect();
+    let mut tails: Vec<u32> = Vec::new();
+    for (&place, &tip) in places.iter().zip(childless) {
+        let mut head = Head { tip: tip as u32, arrival: time(r), ..Head::EMPTY };
+        each_ancestor(t, head.tip, |slot| {
+            if head.connected == 0 {
+                head.tail = slot as u32;
+                head.connected = t.flags[slot] & ON_ACTIVE_CHAIN;
+            }
+        });
+        if head.connected == 0 {
+            let known = tails.iter().position(|&tail| tail == head.tail).unwrap_or_else(|| {
+                tails.push(head.tail);
+                tails.len() - 1
+            });
+            head.missing = previous[known];
+            head.requested = time(r);
+        }
+        t.set_head(place, head);
+    }
+}
+
+/// The occupied blocks from this one up, in a tree without cycles.
+fn each_ancestor(t: &Tables, from: u32, mut see: impl FnMut(usize)) {
+    let mut at = from;
+    while at != NONE_REF {
+        see(at as usize);
+        at = t.parents[at as usize];
+    }
+}
+
+fn children(t: &Tables) -> Vec<usize> {
+    let mut children = vec![0; t.n()];
+    for slot in 0..t.n() {
+        if t.sequences[slot] != NONE_REF && t.parents[slot] != NONE_REF {
+            children[t.parents[slot] as usize] += 1;
+        }
+    }
+    children
+}
+
+/// Puts one field, or one record, out of order.
+fn damage(r: &mut Random, t: &mut Tables) {
+    let at = r.below(t.n());
+    let head = r.below(t.m());
+    match r.below(16) {
+        0 => t.parents[at] = slot(r, t.n()),
+        1 => t.parents[at] = at as u32,
+        2 => t.sequences[at] = sequence(r, t),
+        3 => t.sequences[at] = NONE_REF,
+        4 => t.counts[at] = byte(r),
+        5 => t.flags[at] = byte(r),
+        6 => {
+            let near = t.block(r.below(t.n())).hash;
+            let hash = hash_near(r, t, near);
+            t.set_block(at, Block { hash, ..t.block(at) });
+        }
+        7 => t.set_block(at, t.block(r.below(t.n()))),
+        8 => t.set_block(at, any_block(r, t)),
+        9 => t.tips[head] = slot(r, t.n()),
+        10 => t.tails[head] = slot(r, t.n()),
+        11 => {
+            let near = t.block(r.below(t.n())).hash;
+            let missing = hash_near(r, t, near);
+            t.set_head(head, Head { missing, ..t.head(head) });
+        }
+        12 => t.requested[head] = time(r),
+        13 => t.connected[head] = byte(r),
+        14 => t.set_head(head, t.head(r.below(t.m()))),
+        _ => t.active = slot(r, t.n()),
+    }
+}
+
+/// Tables of arbitrary fields.
+fn arbitrary(r: &mut Random, n: usize, m: usize) -> Tables {
+    let mut t = Tables::empty(n, m);
+    let base = any_hash(r);
+    t.hashes.chunks_exact_mut(32).for_each(|hash| hash.copy_from_slice(&base));
+    for at in 0..n {
+        let block = any_block(r, &t);
+        t.set_block(at, block);
+    }
+    for at in 0..m {
+        let near = t.block(r.below(n)).hash;
+        let head = Head {
+            tip: slot(r, n),
+            tail: slot(r, n),
+            missing: hash_near(r, &t, near),
+            requested: time(r),
+            arrival: time(r),
+            connected: byte(r),
+        };
+        t.set_head(at, head);
+    }
+    t.active = slot(r, n);
+    t
+}
+
+fn any_block(r: &mut Random, t: &Tables) -> Block {
+    let near = t.block(r.below(t.n())).hash;
+    Block {
+        hash: hash_near(r, t, near),
+        parent: slot(r, t.n()),
+        sequence: sequence(r, t),
+        count: byte(r),
+        flags: byte(r),
+    }
+}

@@ -1,0 +1,28 @@
+//! The original Rust tables as the judge of the port: both sides as functions on the same lent
+//! buffers, and what compares them on random tables.
+
+#[cfg(debug_assertions)]
+compile_error!("the judge is a release build: cargo run --release");
+
+pub mod args;
+pub mod functions;
+pub mod generate;
+pub mod port;
+pub mod random;
+pub mod show;
+pub mod shrink;
+pub mod tables;
+
+mod sizes;
+mod stand_ins;
+
+use stand_ins::{api, staged_validation};
+
+include!(concat!(env!("OUT_DIR"), "/modules.rs"));
+
+/// The original's functions, each on the lent buffers.
+pub mod original {
+    pub use crate::blocks::judged::*;
+    pub use crate::branch_value::judged::outranks;
+    pub use crate::chain_heads::judged::*;
+}

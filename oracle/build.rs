@@ -1,18 +1,15 @@
-//! Copies the original's files, unchanged, to the build folder, each with one line after it that
-//! declares a child module of ours, which so reaches the private fields and functions; and links
-//! the port's static library.
+//! Copies the original's files, unchanged, to the build folder, and declares after each a child
+//! module of ours, which so reaches the private fields and functions; and links the port's static
+//! library.
 
 use std::path::Path;
 use std::{env, fs, process};
 
-/// The original's file, and what stands after it. `HERE` is this package's folder.
-const FILES: [(&str, &str); 3] = [
-    ("blocks", r#"#[path = "HERE/src/original/blocks.rs"] pub(crate) mod judged;"#),
-    ("chain_heads", r#"#[path = "HERE/src/original/heads.rs"] pub(crate) mod judged;"#),
-    (
-        "branch_value",
-        r#"#[path = "HERE/src/original/rank.rs"] pub(crate) mod judged; use judged::moonblokz_chain_types;"#,
-    ),
+/// The original's file, our child module of it, and what else the file needs.
+const FILES: [(&str, &str, &str); 3] = [
+    ("blocks", "blocks.rs", ""),
+    ("chain_heads", "heads.rs", ""),
+    ("branch_value", "rank.rs", "use judged::moonblokz_chain_types;"),
 ];
 
 fn main() {
@@ -22,12 +19,13 @@ fn main() {
     let archive = Path::new(&here).join("../target/staticlib");
 
     let mut modules = String::new();
-    for (name, after) in FILES {
+    for (name, child, more) in FILES {
         let file = source.join(name).with_extension("rs");
         let text = fs::read_to_string(&file)
             .unwrap_or_else(|e| stop(&format!("the original's {}: {e}", file.display())));
         let copy = Path::new(&out).join(name).with_extension("rs");
-        let whole = format!("{text}\n{}\n", after.replace("HERE", &here));
+        let child = Path::new(&here).join("src/original").join(child);
+        let whole = format!("{text}\n#[path = {child:?}]\npub(crate) mod judged;\n{more}\n");
         fs::write(&copy, whole).expect("the build folder is written");
         modules += &format!("#[path = {copy:?}]\n#[allow(dead_code)]\nmod {name};\n");
         println!("cargo::rerun-if-changed={}", file.display());

@@ -72,10 +72,14 @@ pub static FUNCTIONS: [Function; 16] = [
     function!(set_head_ref_count(slot, count)),
     function!(set_on_active_chain(slot, value)),
     function!(set_status(slot, status)),
-    function!(insert_at(slot, hash, parent, sequence, count, flags) where |t, a| (a.slot as usize) < t.n()),
+    function!(insert_at(slot, hash, parent, sequence, count, flags) where slot_in_range),
     function!(delete(slot)),
     function!(resolve_parent_ref(slot, parent)),
 ];
+
+fn slot_in_range(tables: &Tables, args: &Args) -> bool {
+    (args.slot as usize) < tables.n()
+}
 
 fn compare<R: PartialEq + Debug>(
     tables: &Tables,

@@ -9,10 +9,10 @@ use std::time::{Duration, Instant};
 const USAGE: &str = "\
 usage: compare [--seed N] [--rounds K] [--seconds S]
 A round is one random table and, for each function, two calls on it, or one if it takes no argument.
-The default is seed 1 and 200000 rounds; --seconds alone sets no bound on the rounds.";
+The default is seed 1 and 300000 rounds; --seconds alone sets no bound on the rounds.";
 
 const CALLS: usize = 2;
-const ROUNDS: u64 = 200_000;
+const ROUNDS: u64 = 300_000;
 
 struct Options {
     seed: u64,

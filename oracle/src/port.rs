@@ -3,150 +3,50 @@
 
 use crate::tables::{Block, BlockStatus, Hash, NONE_REF, SPARE, Tables};
 
-type Bytes = *const u8;
-type BytesMut = *mut u8;
-type Words = *const u32;
-type WordsMut = *mut u32;
-
-unsafe extern "C" {
-    fn probe_hash_less(a: Bytes, a_len: usize, b: Bytes, b_len: usize) -> u32;
-    fn probe_find(
-        hashes: Bytes,
-        hashes_len: usize,
-        sequences: Words,
-        sequences_len: usize,
-        sequence: u32,
-        hash: Bytes,
-        hash_len: usize,
-    ) -> u32;
-    fn probe_next_free_index(sequences: Words, sequences_len: usize) -> u32;
-    fn probe_find_parent(
-        hashes: Bytes,
-        hashes_len: usize,
-        sequences: Words,
-        sequences_len: usize,
-        previous: Bytes,
-        previous_len: usize,
-        sequence: u32,
-    ) -> u32;
-    fn probe_get(
-        hashes: Bytes,
-        hashes_len: usize,
-        parents: Words,
-        parents_len: usize,
-        sequences: Words,
-        sequences_len: usize,
-        counts: Bytes,
-        counts_len: usize,
-        flags: Bytes,
-        flags_len: usize,
-        slot: u32,
-        hash: BytesMut,
-        hash_len: usize,
-        words: WordsMut,
-        words_len: usize,
-    ) -> u32;
-    fn probe_head_ref_count(
-        sequences: Words,
-        sequences_len: usize,
-        counts: Bytes,
-        counts_len: usize,
-        slot: u32,
-    ) -> u32;
-    fn probe_status(
-        sequences: Words,
-        sequences_len: usize,
-        flags: Bytes,
-        flags_len: usize,
-        slot: u32,
-    ) -> u32;
-    fn probe_mark_subtree(
-        parents: Words,
-        parents_len: usize,
-        sequences: Words,
-        sequences_len: usize,
-        root: u32,
-        out: WordsMut,
-        out_len: usize,
-    ) -> u32;
-    fn probe_walks_to_active_chain(
-        parents: Words,
-        parents_len: usize,
-        sequences: Words,
-        sequences_len: usize,
-        flags: Bytes,
-        flags_len: usize,
-        start: u32,
-    ) -> u32;
-    fn probe_adjust_head_ref_count(
-        sequences: Words,
-        sequences_len: usize,
-        counts: BytesMut,
-        counts_len: usize,
-        slot: u32,
-        change: i8,
-    ) -> u32;
-    fn probe_set_head_ref_count(
-        sequences: Words,
-        sequences_len: usize,
-        counts: BytesMut,
-        counts_len: usize,
-        slot: u32,
-        count: u8,
-    ) -> u32;
-    fn probe_set_on_active_chain(
-        sequences: Words,
-        sequences_len: usize,
-        flags: BytesMut,
-        flags_len: usize,
-        slot: u32,
-        value: u32,
-    ) -> u32;
-    fn probe_set_status(
-        sequences: Words,
-        sequences_len: usize,
-        flags: BytesMut,
-        flags_len: usize,
-        slot: u32,
-        status: u32,
-    ) -> u32;
-    fn probe_insert_at(
-        hashes: BytesMut,
-        hashes_len: usize,
-        parents: WordsMut,
-        parents_len: usize,
-        sequences: WordsMut,
-        sequences_len: usize,
-        counts: BytesMut,
-        counts_len: usize,
-        flags: BytesMut,
-        flags_len: usize,
-        slot: u32,
-        hash: Bytes,
-        hash_len: usize,
-        parent: u32,
-        sequence: u32,
-        count: u8,
-        bits: u8,
-    );
-    fn probe_delete(
-        hashes: BytesMut,
-        hashes_len: usize,
-        parents: WordsMut,
-        parents_len: usize,
-        sequences: WordsMut,
-        sequences_len: usize,
-        counts: BytesMut,
-        counts_len: usize,
-        flags: BytesMut,
-        flags_len: usize,
-        slot: u32,
-    ) -> u32;
-    fn probe_resolve_parent_ref(parents: WordsMut, parents_len: usize, slot: u32, parent: u32);
+/// Declares entry points as the port does: in `name(u32, [u8], [mut u8]) -> u32` a slice is its
+/// pointer and its length.
+macro_rules! entries {
+    ($($name:ident($($given:tt),*) $(-> $answer:ty)?;)*) => {
+        $(entries!($name () ($($answer)?) $($given)*);)*
+    };
+    ($name:ident ($($done:ty,)*) $answer:tt [mut $item:ty] $($rest:tt)*) => {
+        entries!($name ($($done,)* *mut $item, usize,) $answer $($rest)*);
+    };
+    ($name:ident ($($done:ty,)*) $answer:tt [$item:ty] $($rest:tt)*) => {
+        entries!($name ($($done,)* *const $item, usize,) $answer $($rest)*);
+    };
+    ($name:ident ($($done:ty,)*) $answer:tt $word:ident $($rest:tt)*) => {
+        entries!($name ($($done,)* $word,) $answer $($rest)*);
+    };
+    ($name:ident ($($done:ty,)*) ($($answer:ty)?)) => {
+        unsafe extern "C" {
+            fn $name($(_: $done),*) $(-> $answer)?;
+        }
+    };
 }
 
-/// `call!(entry(word, .. [slice] .. [mut slice] ..))` calls the entry with each slice in brackets
-/// as its pointer and its length.
+entries! {
+    probe_hash_less([u8], [u8]) -> u32;
+    probe_find([u8], [u32], u32, [u8]) -> u32;
+    probe_next_free_index([u32]) -> u32;
+    probe_find_parent([u8], [u32], [u8], u32) -> u32;
+    probe_get([u8], [u32], [u32], [u8], [u8], u32, [mut u8], [mut u32]) -> u32;
+    probe_head_ref_count([u32], [u8], u32) -> u32;
+    probe_status([u32], [u8], u32) -> u32;
+    probe_mark_subtree([u32], [u32], u32, [mut u32]) -> u32;
+    probe_walks_to_active_chain([u32], [u32], [u8], u32) -> u32;
+    probe_adjust_head_ref_count([u32], [mut u8], u32, i8) -> u32;
+    probe_set_head_ref_count([u32], [mut u8], u32, u8) -> u32;
+    probe_set_on_active_chain([u32], [mut u8], u32, u32) -> u32;
+    probe_set_status([u32], [mut u8], u32, u32) -> u32;
+    probe_insert_at(
+        [mut u8], [mut u32], [mut u32], [mut u8], [mut u8], u32, [u8], u32, u32, u8, u8
+    );
+    probe_delete([mut u8], [mut u32], [mut u32], [mut u8], [mut u8], u32) -> u32;
+    probe_resolve_parent_ref([mut u32], u32, u32);
+}
+
+/// `call!(name(word, [slice], [mut slice]))` calls an entry point in the same way.
 macro_rules! call {
     ($entry:ident($($given:tt),*)) => { call!($entry () $($given)*) };
     ($entry:ident ($($done:expr,)*) [mut $slice:expr] $($rest:tt)*) => {
@@ -158,8 +58,8 @@ macro_rules! call {
     ($entry:ident ($($done:expr,)*) $word:tt $($rest:tt)*) => {
         call!($entry ($($done,)* $word,) $($rest)*)
     };
-    // SAFETY: the entry takes a pointer and a length for each slice, of the element type declared,
-    // keeps none, and reads and writes within the lengths.
+    // SAFETY: the entry point is declared as the port has it, keeps no slice, and reads and writes
+    // within the lengths.
     ($entry:ident ($($done:expr,)*)) => { unsafe { $entry($($done),*) } };
 }
 

@@ -1,65 +1,63 @@
 //! A difference in readable form.
 
 use crate::functions::{Case, Difference};
-use crate::tables::{NONE_REF, Tables};
-use std::fmt::Write;
+use crate::tables::{Block, Head, NONE_REF, Tables};
 
 /// The call, the tables before it, and each side's answer and the tables after it.
 pub fn difference(case: &Case, found: &Difference) -> String {
     let taken = case.args.named();
     let taken = taken.iter().filter(|(name, _)| case.function.takes.contains(name));
     let taken: Vec<String> = taken.map(|(name, value)| format!("{name} {value}")).collect();
-    let (verdict, judged) = &found.original;
-    let (answer, ported) = &found.port;
+    let before = &case.tables;
     format!(
-        "{}({})\n\nbefore\n{}\nthe original answers {verdict} and leaves\n{}\nthe port answers {answer} and leaves\n{}",
+        "{}({})\n\nbefore\n{}\n{}\n{}",
         case.function.name,
         taken.join(", "),
-        tables(&case.tables, None),
-        tables(judged, Some(&case.tables)),
-        tables(ported, Some(&case.tables)),
+        lines(before).join("\n"),
+        side("the original", before, &found.original),
+        side("the port", before, &found.port),
     )
 }
 
-/// A line for each slot; `*` stands before one that is not as it was before.
-fn tables(t: &Tables, before: Option<&Tables>) -> String {
-    let mark = |changed: bool| if changed { '*' } else { ' ' };
-    let mut text = String::new();
-    for slot in 0..t.n() {
-        let block = t.block(slot);
-        let changed = before.is_some_and(|before| before.block(slot) != block);
-        writeln!(
-            text,
-            "{} block {slot}: sequence {}, parent {}, count {}, flags {:08b}, hash {}",
-            mark(changed),
+/// What one side answered, and the tables as it left them; `*` marks what it changed.
+fn side(name: &str, before: &Tables, (answer, after): &(String, Tables)) -> String {
+    if before == after {
+        return format!("\n{name} answers {answer} and changes nothing");
+    }
+    let mut text = format!("\n{name} answers {answer} and leaves");
+    for (old, new) in lines(before).iter().zip(lines(after)) {
+        text += &format!("\n{new}{}", if *old == new { "" } else { "  *" });
+    }
+    text
+}
+
+/// A line for each slot.
+fn lines(t: &Tables) -> Vec<String> {
+    let blocks = (0..t.n()).map(|slot| match t.block(slot) {
+        Block::EMPTY => format!("  block {slot}: empty"),
+        block => format!(
+            "  block {slot}: sequence {}, parent {}, count {}, flags {:08b}, hash {}",
             reference(block.sequence),
             reference(block.parent),
             block.count,
             block.flags,
             hex(&block.hash),
-        )
-        .expect("a string takes all");
-    }
-    for slot in 0..t.m() {
-        let head = t.head(slot);
-        let changed = before.is_some_and(|before| before.head(slot) != head);
-        writeln!(
-            text,
-            "{} head {slot}: tip {}, tail {}, requested {}, arrival {}, connected {:08b}, missing {}",
-            mark(changed),
+        ),
+    });
+    let heads = (0..t.m()).map(|slot| match t.head(slot) {
+        Head::EMPTY => format!("  head {slot}: empty"),
+        head => format!(
+            "  head {slot}: tip {}, tail {}, asked {}, arrival {}, connected {:08b}, missing {}",
             reference(head.tip),
             reference(head.tail),
             head.requested,
             head.arrival,
             head.connected,
             hex(&head.missing),
-        )
-        .expect("a string takes all");
-    }
-    let changed = before.is_some_and(|before| before.active != t.active);
-    writeln!(text, "{} active head: {}", mark(changed), reference(t.active))
-        .expect("a string takes all");
-    text
+        ),
+    });
+    let active = format!("  active head: {}", reference(t.active));
+    blocks.chain(heads).chain([active]).collect()
 }
 
 /// A slot or a sequence, `-` for none.

@@ -133,8 +133,18 @@ impl Shrinker {
         });
     }
 
-    /// Writes each hash, wherever it stands, as one of equal bytes.
+    /// Zeroes each byte in all hashes at once, and writes each hash, wherever it stands, as one of
+    /// equal bytes.
     fn plainer_hashes(&mut self) {
+        for at in 0..32 {
+            self.attempt(|case| {
+                each_field(case, &mut |field| {
+                    if let Field::Hash(hash) = field {
+                        hash[at] = 0;
+                    }
+                });
+            });
+        }
         let mut hashes: Vec<Hash> = Vec::new();
         each_field(&mut self.case.clone(), &mut |field| {
             if let Field::Hash(hash) = field {
@@ -225,8 +235,9 @@ fn plainer(field: Field, step: usize) -> bool {
             step < 4
         }
         Field::Hash(hash) => {
-            hash[step / 2] = (step % 2) as u8;
-            step < 63
+            let byte = &mut hash[step / 4];
+            *byte = [0, 1, *byte / 2, byte.saturating_sub(1)][step % 4];
+            step < 127
         }
     }
 }

@@ -5,7 +5,7 @@ pub use crate::staged_validation::BlockStatus;
 pub const NONE_REF: u32 = u32::MAX;
 
 /// What each place of a caller's list holds before a call that fills it.
-pub const SPARE: u32 = 0xa5a5_a5a5;
+pub const SPARE: u32 = 888_888_888;
 
 pub type Hash = [u8; 32];
 

@@ -7,9 +7,22 @@ ghost use Rattle.rules.specs.Records.{blocksOf, occupied, active, putBlock, sta
 ghost use Rattle.rules.specs.BlockTable.{isBlock, find as findRule, nextFree, findParent, get as getRule, headRefCount, statusAt, reaches, inSubtree, markSubtree, walksToActiveChain, adjusted, adjustedAt, adjustCounts, setOccupied, setOnActiveChain, setStatus, delete as deleteRule, insertAt, resolveParent};
 ghost use Rattle.rules.specs.Answers.{slotFound, blockGot, countGot, statusGot};
 ghost use Rattle.rules.specs.Records.{slotsOf};
-
-use cells::{byte_at, hash_at, put_byte, put_hash, put_word, same_hash, slots, word_at};
-use rules::{Block, BlockSlot, BlockStatus, Counted, Found, Got, Sequence, StatusFound};
+use cells::byte_at;
+use cells::hash_at;
+use cells::put_byte;
+use cells::put_hash;
+use cells::put_word;
+use cells::same_hash;
+use cells::slots;
+use cells::word_at;
+use rules::Block;
+use rules::BlockSlot;
+use rules::BlockStatus;
+use rules::Counted;
+use rules::Found;
+use rules::Got;
+use rules::Sequence;
+use rules::StatusFound;
 
 // ---- looking
 
@@ -263,12 +276,7 @@ pub fn adjust_head_ref_count(
     Counted::Count(count)
 }
 
-pub fn set_head_ref_count(
-    sequences: &[u32],
-    counts: &mut [u8],
-    slot: BlockSlot,
-    count: u8,
-) -> bool
+pub fn set_head_ref_count(sequences: &[u32], counts: &mut [u8], slot: BlockSlot, count: u8) -> bool
     ensures { λ r. ⌜ (r ≡ occupied (now (sequences .entry)) (slot .0))
         × (now (counts .exit) ≡ setOccupied (now (sequences .entry)) (now (counts .entry)) (slot .0) count) ⌝ }
 {
@@ -316,12 +324,7 @@ fn with_status(bits: u8, status: BlockStatus) -> u8
     }
 }
 
-pub fn set_status(
-    sequences: &[u32],
-    flags: &mut [u8],
-    slot: BlockSlot,
-    status: BlockStatus,
-) -> bool
+pub fn set_status(sequences: &[u32], flags: &mut [u8], slot: BlockSlot, status: BlockStatus) -> bool
     ensures { λ r. ⌜ (r ≡ occupied (now (sequences .entry)) (slot .0))
         × (now (flags .exit) ≡ setStatus (now (sequences .entry)) (now (flags .entry)) (slot .0) (statusNumber status)) ⌝ }
 {

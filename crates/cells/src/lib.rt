@@ -4,7 +4,6 @@ ghost use mathlib.Core.Path.{_≡_};
 ghost use lib.ListN.{getD, set};
 ghost use Rattle.rules.specs.Hashes.{hashAt, putHash, sameHash, hashLess};
 ghost use Rattle.rules.specs.Records.{NONE, slotsOf};
-
 use rules::BlockSlot;
 
 // How many slots a field of this length has: no more than a reference can name.
@@ -47,11 +46,7 @@ pub fn byte_at(bytes: &[u8], at: u32) -> u8
 fn byte_from(bytes: &[u8], k: usize) -> u8
     ensures { λ r. ⌜ r ≡ getD (now (bytes .entry)) k 0 ⌝ }
 {
-    if k < bytes.len() {
-        bytes[k]
-    } else {
-        0
-    }
+    if k < bytes.len() { bytes[k] } else { 0 }
 }
 
 pub fn put_byte(bytes: &mut [u8], at: u32, value: u8)
@@ -72,11 +67,7 @@ pub fn time_at(times: &[u64], at: u32) -> u64
     ensures { λ r. ⌜ r ≡ getD (now (times .entry)) at 0 ⌝ }
 {
     let k = at as usize;
-    if k < times.len() {
-        times[k]
-    } else {
-        0
-    }
+    if k < times.len() { times[k] } else { 0 }
 }
 
 pub fn put_time(times: &mut [u64], at: u32, value: u64)

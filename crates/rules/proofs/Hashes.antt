@@ -36,7 +36,7 @@ pub hash-is : (bytes hash : List ℕ) (i : ℕ) → length hash ≡ hashLength
 unfolding hashAt
 hash-is bytes hash i len at =
     ext-getD 0 hash (bytesFrom bytes (i * hashLength) hashLength) (len ∙ sym (bytes-length bytes (i * hashLength) hashLength))
-      (λ k l. let l′ : k < hashLength = omega arith in at k l′ ∙ sym (bytes-at bytes (i * hashLength) hashLength k l′))
+    (λ k l. let l′ : k < hashLength = omega arith in at k l′ ∙ sym (bytes-at bytes (i * hashLength) hashLength k l′))
 
 -- ---- comparing, from a place on
 
@@ -67,7 +67,7 @@ module _ (a b : List ℕ) where
 
     pub less-above : getD b i 0 < getD a i 0 → hashLess (drop i a) (drop i b) ≡ false
     less-above h = let k : getD b i 0 ≤ getD a i 0 = omega arith in
-      less-at ∙ rw (le-ltb (getD a i 0) (getD b i 0) k, lt-ltb (getD b i 0) (getD a i 0) h)
+        less-at ∙ rw (le-ltb (getD a i 0) (getD b i 0) k, lt-ltb (getD b i 0) (getD a i 0) h)
 
     pub less-goes : getD b i 0 ≤ getD a i 0 → getD a i 0 ≤ getD b i 0 → hashLess (drop i a) (drop i b) ≡ hashLess (drop (i + 1) a) (drop (i + 1) b)
     less-goes h k = less-at ∙ rw (le-ltb (getD a i 0) (getD b i 0) h, le-ltb (getD b i 0) (getD a i 0) k)

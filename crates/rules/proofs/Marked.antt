@@ -25,8 +25,9 @@ each [] row e i = absurd (List·Memᴰ·not-nil i)
 each (x ∷ rows) row e i =
     let p = and-true (eqb (x .given) (x .marked)) (allAsMarked rows) e in
     elim (List·Memᴰ·cases-cons i) [
-      inl q ↦ rw q (eqb-true (x .given) (x .marked) (p .0))
-    | inr m ↦ each rows row (p .1) m ]
+      | inl q ↦ rw q (eqb-true (x .given) (x .marked) (p .0))
+      | inr m ↦ each rows row (p .1) m
+    ]
 
 pub as-marked : (row : Mark) → List·Memᴰ row marks → row .given ≡ row .marked
 as-marked row i = each marks row all-as-marked i

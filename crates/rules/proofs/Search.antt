@@ -46,18 +46,18 @@ module _ (test : ℕ → Bool) where
   lowest-holds zero i e = some-not-none {o = lowest test 0} {i = i} e lowest-none
   lowest-holds (suc n) i e = option? (lowest test n)
       (λ q. split (test n)
-        (λ t. let s : some i ≡ some n = sym e ∙ lowest-passes n q t in let p : i ≡ n = cc in (omega arith, rw p t))
-        (λ f. some-not-none {o = lowest test (suc n)} {i = i} e (lowest-fails n q f)))
+      (λ t. let s : some i ≡ some n = sym e ∙ lowest-passes n q t in let p : i ≡ n = cc in (omega arith, rw p t))
+      (λ f. some-not-none {o = lowest test (suc n)} {i = i} e (lowest-fails n q f)))
       (λ j q. let s : some i ≡ some j = sym e ∙ lowest-stays n j q in
-        let p : i ≡ j = cc in
-        let r = lowest-holds n i (q ∙ sym s) in (omega arith, r .1))
+      let p : i ≡ j = cc in
+      let r = lowest-holds n i (q ∙ sym s) in (omega arith, r .1))
 
   pub lowest-misses : (n i : ℕ) → lowest test n ≡ none → i < n → test i ≡ false
   lowest-misses zero i e l = absurd (omega arith)
   lowest-misses (suc n) i e l = option? (lowest test n)
       (λ q. split (test n)
-        (λ t. some-not-none {o = lowest test (suc n)} {i = n} (lowest-passes n q t) e)
-        (λ f. same? i n (λ p. rw p f) (λ ne. lowest-misses n i q (omega arith))))
+      (λ t. some-not-none {o = lowest test (suc n)} {i = n} (lowest-passes n q t) e)
+      (λ f. same? i n (λ p. rw p f) (λ ne. lowest-misses n i q (omega arith))))
       (λ j q. some-not-none {o = lowest test (suc n)} {i = j} (lowest-stays n j q) e)
 
   pub lowest-least : (n i j : ℕ) → lowest test n ≡ some i → j < i → test j ≡ false
@@ -75,9 +75,9 @@ pub lowest-ext : (p q : ℕ → Bool) (n : ℕ) → ((i : ℕ) → i < n → p i
 lowest-ext p q zero h = lowest-none p ∙ sym (lowest-none q)
 lowest-ext p q (suc n) h = option? (lowest p n)
     (λ e. let e′ : lowest q n ≡ none = sym (lowest-ext p q n (λ i l. h i (omega arith))) ∙ e in
-      split (p n)
-        (λ t. lowest-passes p n e t ∙ sym (lowest-passes q n e′ (sym (h n (omega arith)) ∙ t)))
-        (λ f. lowest-fails p n e f ∙ sym (lowest-fails q n e′ (sym (h n (omega arith)) ∙ f))))
+    split (p n)
+    (λ t. lowest-passes p n e t ∙ sym (lowest-passes q n e′ (sym (h n (omega arith)) ∙ t)))
+    (λ f. lowest-fails p n e f ∙ sym (lowest-fails q n e′ (sym (h n (omega arith)) ∙ f))))
     (λ i e. lowest-stays p n i e ∙ sym (lowest-stays q n i (sym (lowest-ext p q n (λ j l. h j (omega arith))) ∙ e)))
 
 -- ---- which pass

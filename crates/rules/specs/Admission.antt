@@ -9,7 +9,20 @@ use lib.ListN.{set}
 use Rattle.rules.specs.Common.{if_then_else_, lowest, inOrder}
 use Rattle.rules.specs.Hashes.{zeroHash, hashAt, sameHash}
 use Rattle.rules.specs.Records.{
-  NONE, Blocks, Heads, Tables, slotsOf, sequenceAt, parentAt, tipAt, tailAt, occupied, used, stored, emptyHead, putHead
+  NONE,
+  Blocks,
+  Heads,
+  Tables,
+  slotsOf,
+  sequenceAt,
+  parentAt,
+  tipAt,
+  tailAt,
+  occupied,
+  used,
+  stored,
+  emptyHead,
+  putHead,
 }
 use Rattle.rules.specs.BlockTable.{adjust, withParents, resolveParent}
 use Rattle.rules.specs.Caches.{Caches, caches, withCaches, slotOfHead, recomputeHead, refreshHead}
@@ -28,8 +41,9 @@ newHead tip arrival = record { tip = record { 0 = tip }; tail = record { 0 = tip
 unfoldable pub seatHead : Tables → ℕ → ℕ → ℕ → List ℕ → Tables
 seatHead t tip arrival arriving previous =
     elim (firstEmpty (t .heads .tips)) [
-      none ↦ t
-    | some k ↦ record { blocks = t .blocks; heads = recomputeHead (t .blocks) (putHead (t .heads) k (newHead tip arrival)) k arriving previous } ]
+      | none ↦ t
+      | some k ↦ record { blocks = t .blocks; heads = recomputeHead (t .blocks) (putHead (t .heads) k (newHead tip arrival)) k arriving previous }
+    ]
 
 -- a full head table evicts just before the insertion
 unfoldable pub makeRoom : Tables → ℕ → Tables
@@ -49,9 +63,9 @@ withArrivals h arrivals = record { tips = h .tips; tails = h .tails; missing = h
 -- the head in slot k moves up to the new block
 unfoldable pub moveUp : Tables → ℕ → ℕ → List ℕ → ℕ → Tables
 moveUp t k block previous arrival = record {
-    blocks = t .blocks;
-    heads = recomputeHead (t .blocks) (withArrivals (withTips (t .heads) (set (t .heads .tips) k block)) (set (t .heads .arrivals) k arrival)) k block previous
-  }
+  blocks = t .blocks;
+  heads = recomputeHead (t .blocks) (withArrivals (withTips (t .heads) (set (t .heads .tips) k block)) (set (t .heads .arrivals) k arrival)) k block previous;
+}
 
 -- a parent that is no head counts one more, and a head is inserted
 unfoldable pub fork : Tables → ℕ → ℕ → List ℕ → ℕ → ℕ → Tables
@@ -80,8 +94,9 @@ late t block hash sequence k =
 unfoldable pub joined : Tables → ℕ → Tables
 joined t block =
     elim (slotOfHead (t .heads .tips) block) [
-      some k ↦ record { blocks = t .blocks; heads = putHead (t .heads) k emptyHead }
-    | none ↦ record { blocks = adjust (t .blocks) block (pos 1); heads = t .heads } ]
+      | some k ↦ record { blocks = t .blocks; heads = putHead (t .heads) k emptyHead }
+      | none ↦ record { blocks = adjust (t .blocks) block (pos 1); heads = t .heads }
+    ]
 
 unfoldable pub link : Tables → ℕ → ℕ → Tables
 link t block k =
@@ -100,9 +115,9 @@ linkTails t block hash sequence = inOrder (linkLate block hash sequence) (slotsO
 
 unfoldable pub recomputeMissing : Tables → ℕ → List ℕ → List ℕ → Tables
 recomputeMissing t block hash previous = record {
-    blocks = t .blocks;
-    heads = inOrder (recomputeMissed (t .blocks) block hash previous) (slotsOf (t .heads .tips)) (t .heads)
-  }
+  blocks = t .blocks;
+  heads = inOrder (recomputeMissed (t .blocks) block hash previous) (slotsOf (t .heads .tips)) (t .heads);
+}
 
 -- left out where the eviction freed the new block itself
 unfoldable pub resolveTails : Tables → ℕ → List ℕ → Tables

@@ -9,7 +9,21 @@ use lib.ListN.{set}
 use Rattle.rules.specs.Common.{if_then_else_, lowest, countBelow, allBelow}
 use Rattle.rules.specs.Hashes.{hashAt, sameHash}
 use Rattle.rules.specs.Records.{
-  NONE, Blocks, slotsOf, sequenceAt, parentAt, countAt, flagsAt, occupied, active, withBit0, statusOf, withStatus, emptyBlock, blockAt, putBlock
+  NONE,
+  Blocks,
+  slotsOf,
+  sequenceAt,
+  parentAt,
+  countAt,
+  flagsAt,
+  occupied,
+  active,
+  withBit0,
+  statusOf,
+  withStatus,
+  emptyBlock,
+  blockAt,
+  putBlock,
 }
 use Rattle.rules.specs.declared.Block.{Block}
 

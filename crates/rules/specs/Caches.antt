@@ -42,11 +42,11 @@ missingPart previous missing at arriving k =
 
 abbrev pub connectionKept : Caches → ℕ → ℕ → Caches
 connectionKept c k at = record {
-    tails = set (c .tails) k at;
-    missing = putHash (c .missing) k zeroHash;
-    requested = set (c .requested) k 0;
-    connected = set (c .connected) k (withBit0 (getD (c .connected) k 0) true)
-  }
+  tails = set (c .tails) k at;
+  missing = putHash (c .missing) k zeroHash;
+  requested = set (c .requested) k 0;
+  connected = set (c .connected) k (withBit0 (getD (c .connected) k 0) true);
+}
 
 abbrev pub tailKept : (tips : List ℕ) → Caches → ℕ → ℕ → ℕ → List ℕ → Caches
 tailKept tips c k at arriving previous =
@@ -56,7 +56,7 @@ tailKept tips c k at arriving previous =
       tails = tails;
       missing = putHash (c .missing) k (hashAt (missingPart previous (c .missing) at arriving (knowing tips tails connected at k)) 0);
       requested = c .requested;
-      connected = connected
+      connected = connected;
     }
 
 unfoldable pub keep : (tips : List ℕ) → Caches → ℕ → Anchor → ℕ → List ℕ → Caches

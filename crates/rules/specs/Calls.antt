@@ -102,8 +102,9 @@ admit s sequence hash previous arrival =
     else if sameHash hash zeroHash then refuse s 5
     else if isSome (find (b .hashes) (b .sequences) sequence hash) then refuse s 6
     else elim (nextFree (b .sequences)) [
-      none ↦ refuse s 7
-    | some i ↦ answering (keeping s (admitAt s i sequence hash previous arrival)) (slot i) ]
+      | none ↦ refuse s 7
+      | some i ↦ answering (keeping s (admitAt s i sequence hash previous arrival)) (slot i)
+    ]
 
 -- ---- promote
 
@@ -135,9 +136,9 @@ remove s root =
 
 abbrev pub withRequested : Tables → List ℕ → Tables
 withRequested t requested = record {
-    blocks = t .blocks;
-    heads = record { tips = t .heads .tips; tails = t .heads .tails; missing = t .heads .missing; requested = requested; arrivals = t .heads .arrivals; connected = t .heads .connected }
-  }
+  blocks = t .blocks;
+  heads = record { tips = t .heads .tips; tails = t .heads .tails; missing = t .heads .missing; requested = requested; arrivals = t .heads .arrivals; connected = t .heads .connected };
+}
 
 -- the chosen head's request time becomes now
 unfoldable pub asked : State → ℕ → Option Ask → Stepped

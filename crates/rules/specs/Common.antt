@@ -7,7 +7,6 @@ use Prim.Native.Nat.{ℕ, zero, suc, _+_}
 use lib.Dec.{eqb}
 
 infix 10 if_then_else_
-
 abbrev pub if_then_else_ {ℓ} : {A : Type ℓ} → Bool → A → A → A
 if true then a else b = a
 if false then a else b = b

@@ -8,7 +8,20 @@ use lib.IntN.{negsuc}
 use Rattle.rules.specs.Common.{if_then_else_, best}
 use Rattle.rules.specs.Hashes.{hashAt, hashLess}
 use Rattle.rules.specs.Records.{
-  NONE, Blocks, Heads, Tables, slotsOf, sequenceAt, parentAt, countAt, tipAt, occupied, active, used, emptyHead, putHead
+  NONE,
+  Blocks,
+  Heads,
+  Tables,
+  slotsOf,
+  sequenceAt,
+  parentAt,
+  countAt,
+  tipAt,
+  occupied,
+  active,
+  used,
+  emptyHead,
+  putHead,
 }
 use Rattle.rules.specs.BlockTable.{adjusted, adjust, delete}
 
@@ -39,9 +52,9 @@ evictFrom (suc visits) b i =
 
 unfoldable pub evict : Tables → ℕ → Tables
 evict t k = record {
-    blocks = evictFrom (slotsOf (t .blocks .sequences)) (t .blocks) (tipAt (t .heads .tips) k);
-    heads = putHead (t .heads) k emptyHead
-  }
+  blocks = evictFrom (slotsOf (t .blocks .sequences)) (t .blocks) (tipAt (t .heads .tips) k);
+  heads = putHead (t .heads) k emptyHead;
+}
 
 -- without a victim nothing changes
 unfoldable pub evictOne : Tables → ℕ → Tables

@@ -30,22 +30,22 @@ rebuilt t arrival activeHead =
 
 unfoldable pub emptyBlocks : ℕ → Blocks
 emptyBlocks n = record {
-    hashes = replicate (n * hashLength) 0;
-    parents = replicate n NONE;
-    sequences = replicate n NONE;
-    counts = replicate n 0;
-    flags = replicate n 0
-  }
+  hashes = replicate (n * hashLength) 0;
+  parents = replicate n NONE;
+  sequences = replicate n NONE;
+  counts = replicate n 0;
+  flags = replicate n 0;
+}
 
 unfoldable pub emptyHeads : ℕ → Heads
 emptyHeads m = record {
-    tips = replicate m NONE;
-    tails = replicate m NONE;
-    missing = replicate (m * hashLength) 0;
-    requested = replicate m 0;
-    arrivals = replicate m 0;
-    connected = replicate m 0
-  }
+  tips = replicate m NONE;
+  tails = replicate m NONE;
+  missing = replicate (m * hashLength) 0;
+  requested = replicate m 0;
+  arrivals = replicate m 0;
+  connected = replicate m 0;
+}
 
 -- restart empties the heads, sets the counts first, then rebuilds
 unfoldable pub restarted : Tables → ℕ → ℕ → Tables

@@ -119,28 +119,28 @@ emptyHead = record { tip = record { 0 = NONE }; tail = record { 0 = NONE }; miss
 
 unfoldable pub blockAt : Blocks → ℕ → Block
 blockAt b i = record {
-    hash = hashAt (b .hashes) i;
-    parent = record { 0 = parentAt (b .parents) i };
-    sequence = record { 0 = sequenceAt (b .sequences) i };
-    count = countAt (b .counts) i;
-    flags = flagsAt (b .flags) i
-  }
+  hash = hashAt (b .hashes) i;
+  parent = record { 0 = parentAt (b .parents) i };
+  sequence = record { 0 = sequenceAt (b .sequences) i };
+  count = countAt (b .counts) i;
+  flags = flagsAt (b .flags) i;
+}
 
 unfoldable pub putBlock : Blocks → ℕ → Block → Blocks
 putBlock b i block = record {
-    hashes = putHash (b .hashes) i (block .hash);
-    parents = set (b .parents) i (block .parent .0);
-    sequences = set (b .sequences) i (block .sequence .0);
-    counts = set (b .counts) i (block .count);
-    flags = set (b .flags) i (block .flags)
-  }
+  hashes = putHash (b .hashes) i (block .hash);
+  parents = set (b .parents) i (block .parent .0);
+  sequences = set (b .sequences) i (block .sequence .0);
+  counts = set (b .counts) i (block .count);
+  flags = set (b .flags) i (block .flags);
+}
 
 unfoldable pub putHead : Heads → ℕ → Head → Heads
 putHead h k head = record {
-    tips = set (h .tips) k (head .tip .0);
-    tails = set (h .tails) k (head .tail .0);
-    missing = putHash (h .missing) k (head .missing);
-    requested = set (h .requested) k (head .requested);
-    arrivals = set (h .arrivals) k (head .arrival);
-    connected = set (h .connected) k (head .connected)
-  }
+  tips = set (h .tips) k (head .tip .0);
+  tails = set (h .tails) k (head .tail .0);
+  missing = putHash (h .missing) k (head .missing);
+  requested = set (h .requested) k (head .requested);
+  arrivals = set (h .arrivals) k (head .arrival);
+  connected = set (h .connected) k (head .connected);
+}

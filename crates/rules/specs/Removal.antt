@@ -55,9 +55,9 @@ dropHeads deleted moving parent h = inOrder (dropHead deleted moving parent) (sl
 
 unfoldable pub blocksDeleted : Tables → List ℕ → ℕ → Tables
 blocksDeleted t deleted parent = record {
-    blocks = recounted (t .blocks);
-    heads = recomputeHeads (t .blocks) (dropHeads deleted (heir t deleted parent) parent (t .heads))
-  }
+  blocks = recounted (t .blocks);
+  heads = recomputeHeads (t .blocks) (dropHeads deleted (heir t deleted parent) parent (t .heads));
+}
 
 -- ---- remove marks, frees, and goes on with the root's parent
 

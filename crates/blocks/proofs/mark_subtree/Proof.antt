@@ -60,17 +60,22 @@ loop-again c =
     let l = c .before .before .before .loop in
     let test = inSubtree (c .before .before .before .before .before .before .before .before .before .before .args .parents .now) (c .before .before .before .before .before .before .before .before .before .before .args .sequences .now) (c .before .before .before .before .before .before .before .before .before .before .args .root .0) in
     ⊎-elim
-      (λ w.
-        let e : allBelow test (l .i + 1) ≡ allBelow test (l .i) ++ l .i ∷ [] = all-passes test (l .i) (sym (c .before .in-subtree .ensures) ∙ w .0 .taken) in
-        let z : 0 + length (allBelow test (l .i)) ≡ l .count = zero-add _ ∙ sym (l .inv .1 .0) in
-        ( omega arith
-        , ( rw (e, w .6) (omega (arith, length-append (allBelow test (l .i)) (l .i ∷ []), l .inv .1 .0))
-          , ( rw (w .5) (w .2 .kept .0 ∙ l .inv .1 .1 .0)
-            , w .5 ∙ w .2 .ensures ∙ rw (e, sets-append, z, ← l .inv .1 .1 .1)))))
-      (λ w.
-        let e : allBelow test (l .i + 1) ≡ allBelow test (l .i) = all-fails test (l .i) (sym (c .before .in-subtree .ensures) ∙ w .0 .left) in
-        (omega arith, (rw e (w .2 ∙ l .inv .1 .0), (rw (w .1) (l .inv .1 .1 .0), rw e (w .1 ∙ l .inv .1 .1 .1)))))
-      (c .if2 .came)
+    (λ w.
+    let e : allBelow test (l .i + 1) ≡ allBelow test (l .i) ++ l .i ∷ [] = all-passes test (l .i) (sym (c .before .in-subtree .ensures) ∙ w .0 .taken) in
+    let z : 0 + length (allBelow test (l .i)) ≡ l .count = zero-add _ ∙ sym (l .inv .1 .0) in (
+      omega arith,
+      (
+        rw (e, w .6) (omega (arith, length-append (allBelow test (l .i)) (l .i ∷ []), l .inv .1 .0)),
+        (
+          rw (w .5) (w .2 .kept .0 ∙ l .inv .1 .1 .0),
+          w .5 ∙ w .2 .ensures ∙ rw (e, sets-append, z, ← l .inv .1 .1 .1),
+        ),
+      ),
+    ))
+    (λ w.
+    let e : allBelow test (l .i + 1) ≡ allBelow test (l .i) = all-fails test (l .i) (sym (c .before .in-subtree .ensures) ∙ w .0 .left) in
+    (omega arith, (rw e (w .2 ∙ l .inv .1 .0), (rw (w .1) (l .inv .1 .1 .0), rw e (w .1 ∙ l .inv .1 .1 .1)))))
+    (c .if2 .came)
 
 same-length : tie.Need-same-length Inv-loop μ-loop
 same-length c = search needs

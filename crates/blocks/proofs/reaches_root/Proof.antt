@@ -32,7 +32,7 @@ is-occupied-requires c κs = search needs
 returns-2 : tie.Need-returns-2 Inv-loop μ-loop
 returns-2 c =
     rw (← c .before .before .before .before .before .before .slots .ensures) (sym (c .before .before .before .before .before .loop .inv .1 ∙ reaches-empty _ _ _ (c .before .before .before .before .before .before .slots .result - c .before .before .before .before .before .loop .tries) (c .before .before .before .before .before .loop .current) (omega arith) (c .before .before .if1 .left)
-      (sym (c .before .is-occupied .ensures) ∙ not-true (c .before .is-occupied .result) (c .if2 .taken))))
+    (sym (c .before .is-occupied .ensures) ∙ not-true (c .before .is-occupied .result) (c .if2 .taken))))
 
 word-at-requires : tie.Need-word-at-requires Inv-loop μ-loop
 word-at-requires c κs = search needs
@@ -40,7 +40,7 @@ word-at-requires c κs = search needs
 returns-3 : tie.Need-returns-3 Inv-loop μ-loop
 returns-3 c =
     rw (← c .before .before .before .before .before .before .before .before .slots .ensures) (sym (c .before .before .before .before .before .before .before .loop .inv .1 ∙ reaches-end _ _ _ (c .before .before .before .before .before .before .before .before .slots .result - c .before .before .before .before .before .before .before .loop .tries) (c .before .before .before .before .before .before .before .loop .current) (omega arith) (c .before .before .before .before .if1 .left)
-      (sym (c .before .before .before .is-occupied .ensures) ∙ not-false (c .before .before .before .is-occupied .result) (c .before .before .if2 .left)) (sym (c .before .word-at .ensures) ∙ c .if3 .taken)))
+    (sym (c .before .before .before .is-occupied .ensures) ∙ not-false (c .before .before .before .is-occupied .result) (c .before .before .if2 .left)) (sym (c .before .word-at .ensures) ∙ c .if3 .taken)))
 
 add-tries : tie.Need-add-tries Inv-loop μ-loop
 add-tries c = omega arith
@@ -51,10 +51,11 @@ loop-less c = omega arith
 loop-again : tie.Need-loop-again Inv-loop μ-loop
 loop-again c =
     let k : ℕ = c .before .before .before .before .before .before .before .before .slots .result - (c .before .before .before .before .before .before .before .loop .tries + 1) in
-    let e : c .before .before .before .before .before .before .before .before .slots .result - c .before .before .before .before .before .before .before .loop .tries ≡ suc k = omega arith in
-    ( omega arith
-    , c .before .before .before .before .before .before .before .loop .inv .1 ∙ rw (e, c .before .word-at .ensures) (reaches-up _ _ _ k (c .before .before .before .before .before .before .before .loop .current) (c .before .before .before .before .if1 .left)
-        (sym (c .before .before .before .is-occupied .ensures) ∙ not-false (c .before .before .before .is-occupied .result) (c .before .before .if2 .left)) (λ q. c .if3 .left (c .before .word-at .ensures ∙ q))))
+    let e : c .before .before .before .before .before .before .before .before .slots .result - c .before .before .before .before .before .before .before .loop .tries ≡ suc k = omega arith in (
+      omega arith,
+      c .before .before .before .before .before .before .before .loop .inv .1 ∙ rw (e, c .before .word-at .ensures) (reaches-up _ _ _ k (c .before .before .before .before .before .before .before .loop .current) (c .before .before .before .before .if1 .left)
+          (sym (c .before .before .before .is-occupied .ensures) ∙ not-false (c .before .before .before .is-occupied .result) (c .before .before .if2 .left)) (λ q. c .if3 .left (c .before .word-at .ensures ∙ q))),
+    )
 
 returns-4 : tie.Need-returns-4 Inv-loop μ-loop
 returns-4 c = rw (← c .before .before .slots .ensures) (sym (c .before .loop .inv .1 ∙ reaches-spent _ _ _ (c .before .before .slots .result - c .before .loop .tries) (c .before .loop .current) (omega arith)))

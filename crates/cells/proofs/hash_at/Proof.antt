@@ -41,13 +41,18 @@ loop-less c = omega arith
 loop-again : tie.Need-loop-again Inv-loop μ-loop
 loop-again c =
     let l = c .before .before .loop in
-    let h : length (l .hash) ≡ 32 = l .inv .1 .1 .0 in
-    ( refl
-    , ( omega arith
-      , ( length-set (l .hash) (l .k) (c .byte-from .result) ∙ h
-        , λ j lt. same? j (l .k)
-            (λ q. rw q (getD-set-same (l .hash) (l .k) (c .byte-from .result) 0 (omega arith) ∙ c .byte-from .ensures))
-            (λ ne. getD-set-other (l .hash) (l .k) j (c .byte-from .result) 0 ne ∙ l .inv .1 .1 .1 j (omega arith)))))
+    let h : length (l .hash) ≡ 32 = l .inv .1 .1 .0 in (
+      refl,
+      (
+        omega arith,
+        (
+          length-set (l .hash) (l .k) (c .byte-from .result) ∙ h,
+          λ j lt. same? j (l .k)
+              (λ q. rw q (getD-set-same (l .hash) (l .k) (c .byte-from .result) 0 (omega arith) ∙ c .byte-from .ensures))
+              (λ ne. getD-set-other (l .hash) (l .k) j (c .byte-from .result) 0 ne ∙ l .inv .1 .1 .1 j (omega arith)),
+        ),
+      ),
+    )
 
 returns : tie.Need-returns Inv-loop μ-loop
 returns c =

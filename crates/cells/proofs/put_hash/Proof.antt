@@ -42,11 +42,16 @@ loop-again c =
     let l = c .before .before .before .before .before .loop in
     let a = c .before .before .before .before .before .before .before .args in
     let p = c .before .before .put-byte-from in
-    let t : length (a .t3) ≡ 32 = search needs in
-    ( refl
-    , ( omega arith
-      , ( p .kept .0 ∙ l .inv .1 .1 .0
-        , p .ensures ∙ rw (l .inv .1 .1 .1) (sym (sets-next (a .bytes .now) (a .t3) (a .at * 32) (l .k) (omega arith))))))
+    let t : length (a .t3) ≡ 32 = search needs in (
+      refl,
+      (
+        omega arith,
+        (
+          p .kept .0 ∙ l .inv .1 .1 .0,
+          p .ensures ∙ rw (l .inv .1 .1 .1) (sym (sets-next (a .bytes .now) (a .t3) (a .at * 32) (l .k) (omega arith))),
+        ),
+      ),
+    )
 
 same-length : tie.Need-same-length Inv-loop μ-loop
 same-length c = c .before .loop .inv .1 .1 .0

@@ -1,0 +1,25 @@
+use mathlib.Core.Path.{ap, _∙_}
+use mir.Syntax.{w8}
+use mir.ValLaws.{toZ-ofZ}
+use Rattle.probe.specs.Numbers.{orNone}
+use borrow.Author.Needs.{needs}
+use Rattle.probe.proofs.probe_adjust_head_ref_count.Statement.{statement}
+use Rattle.probe.proofs.probe_adjust_head_ref_count.Tie as tie
+
+adjust-head-ref-count-requires : tie.Need-adjust-head-ref-count-requires
+adjust-head-ref-count-requires c κs = search needs
+
+counted-requires : tie.Need-counted-requires
+counted-requires c κs = search needs
+
+same-length : tie.Need-same-length
+same-length c = search needs
+
+returns : tie.Need-returns
+returns c =
+    let z = toZ-ofZ w8 (c .before .before .before .before .before .before .before .args .change) (c .before .before .before .before .before .before .before .fits .change) in
+    (c .counted .ensures ∙ ap orNone (c .before .before .before .adjust-head-ref-count .ensures .0) ∙ rw z, c .before .before .before .adjust-head-ref-count .ensures .1 ∙ rw z)
+
+pub probe-adjust-head-ref-count-spec : {M : Type 1} → statement M
+probe-adjust-head-ref-count-spec =
+    tie.close (tie.spec adjust-head-ref-count-requires counted-requires same-length returns)

@@ -1,0 +1,21 @@
+use mathlib.Core.Path.{ap, _∙_}
+use Rattle.probe.specs.Numbers.{yes}
+use borrow.Author.Needs.{needs}
+use Rattle.probe.proofs.probe_set_on_active_chain.Statement.{statement}
+use Rattle.probe.proofs.probe_set_on_active_chain.Tie as tie
+
+set-on-active-chain-requires : tie.Need-set-on-active-chain-requires
+set-on-active-chain-requires c κs = search needs
+
+said-requires : tie.Need-said-requires
+said-requires c κs = search needs
+
+same-length : tie.Need-same-length
+same-length c = search needs
+
+returns : tie.Need-returns
+returns c = (c .said .ensures ∙ ap yes (c .before .before .before .set-on-active-chain .ensures .0), c .before .before .before .set-on-active-chain .ensures .1)
+
+pub probe-set-on-active-chain-spec : {M : Type 1} → statement M
+probe-set-on-active-chain-spec =
+    tie.close (tie.spec set-on-active-chain-requires said-requires same-length returns)

@@ -39,12 +39,10 @@ impl Args {
         see(Field::Byte(&mut self.count));
         see(Field::Byte(&mut self.flags));
     }
-}
 
-impl Args {
     /// The arguments by name, as they are shown.
-    pub fn named(&self) -> [(&'static str, String); 10] {
-        [
+    pub fn named(&self) -> Vec<(&'static str, String)> {
+        vec![
             ("slot", reference(self.slot)),
             ("parent", reference(self.parent)),
             ("sequence", reference(self.sequence)),

@@ -58,7 +58,7 @@ macro_rules! function {
     };
 }
 
-pub static FUNCTIONS: [Function; 16] = [
+pub static FUNCTIONS: &[Function] = &[
     function!(hash_less(hash, previous)),
     function!(find(sequence, hash)),
     function!(next_free_index()),

@@ -69,7 +69,7 @@ pub fn args(r: &mut Random, t: &Tables) -> Args {
     }
 }
 
-/// A block slot, in range three times in four, and otherwise one that a wrong width would take for
+/// A block slot, in range two times in three, and otherwise one that a wrong width would take for
 /// one in range, or any.
 fn slot(r: &mut Random, n: usize) -> u32 {
     let inside = r.below(n) as u32;

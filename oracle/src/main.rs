@@ -46,7 +46,7 @@ fn main() -> ExitCode {
     };
     let begun = Instant::now();
     let mut random = Random::new(options.seed);
-    let mut compared = [0u64; FUNCTIONS.len()];
+    let mut compared = vec![0; FUNCTIONS.len()];
     let mut round = 0;
     while options.rounds.is_none_or(|rounds| round < rounds)
         && options.time.is_none_or(|time| begun.elapsed() < time)
@@ -57,7 +57,7 @@ fn main() -> ExitCode {
         }
         round += 1;
     }
-    for (function, calls) in FUNCTIONS.iter().zip(compared) {
+    for (function, calls) in FUNCTIONS.iter().zip(&compared) {
         println!("{:<24}{calls:>10}", function.name);
     }
     println!(

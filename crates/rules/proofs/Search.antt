@@ -102,6 +102,26 @@ module _ (test : ℕ → Bool) where
       (λ e. rw e (omega (arith, length-append (allBelow test i) (i ∷ []), all-few i)))
       (λ e. rw e (omega (arith, length-append (allBelow test i) [], all-few i)))
 
+-- ---- how many pass
+
+module _ (test : ℕ → Bool) where
+  pub count-none : countBelow test 0 ≡ 0
+  unfolding countBelow
+  count-none = refl
+
+  pub count-passes : (i : ℕ) → test i ≡ true → countBelow test (i + 1) ≡ countBelow test i + 1
+  unfolding countBelow
+  count-passes i e = rw add-one (rw e (omega arith))
+
+  pub count-fails : (i : ℕ) → test i ≡ false → countBelow test (i + 1) ≡ countBelow test i
+  unfolding countBelow
+  count-fails i e = rw add-one (rw e (omega arith))
+
+  pub count-few : (i : ℕ) → countBelow test i ≤ i
+  unfolding countBelow
+  count-few zero = omega arith
+  count-few (suc i) = split (test i) (λ e. rw e (omega (arith, count-few i))) (λ e. rw e (omega (arith, count-few i)))
+
 -- ---- one after the other
 
 pub in-order-none {ℓ} : {A : Type ℓ} (act : ℕ → A → A) (a : A) → inOrder act 0 a ≡ a

@@ -10,6 +10,7 @@ use lib.Dec.{eqb}
 use Rattle.rules.specs.Common.{if_then_else_}
 use Rattle.rules.specs.Records.{NONE, parentAt, occupied, active}
 use Rattle.rules.specs.BlockTable.{reaches, walksToActive}
+use Rattle.rules.specs.Anchor.{Anchor, connection, tail, anchorFrom}
 
 module _ (parents sequences : List ℕ) (root : ℕ) where
   pub reaches-spent : (k i : ℕ) → k ≡ 0 → reaches parents sequences root k i ≡ false
@@ -60,3 +61,28 @@ module _ (parents sequences flags : List ℕ) where
       → walksToActive parents sequences flags (suc k) i ≡ walksToActive parents sequences flags k (parentAt parents i)
   unfolding walksToActive
   active-up k i o a e = rw (o, a, ne-eqb (parentAt parents i) NONE e)
+
+module _ (parents sequences flags : List ℕ) where
+  pub anchor-spent : (k last i : ℕ) → k ≡ 0 → anchorFrom parents sequences flags k last i ≡ tail last
+  unfolding anchorFrom
+  anchor-spent k last i z = rw z refl
+
+  pub anchor-empty : (k last i : ℕ) → 0 < k → occupied sequences i ≡ false → anchorFrom parents sequences flags k last i ≡ tail last
+  unfolding anchorFrom
+  anchor-empty zero last i h o = absurd (omega arith)
+  anchor-empty (suc k) last i h o = rw o
+
+  pub anchor-active : (k last i : ℕ) → 0 < k → occupied sequences i ≡ true → active flags i ≡ true → anchorFrom parents sequences flags k last i ≡ connection i
+  unfolding anchorFrom
+  anchor-active zero last i h o a = absurd (omega arith)
+  anchor-active (suc k) last i h o a = rw (o, a)
+
+  pub anchor-root : (k last i : ℕ) → 0 < k → occupied sequences i ≡ true → active flags i ≡ false → parentAt parents i ≡ NONE → anchorFrom parents sequences flags k last i ≡ tail i
+  unfolding anchorFrom
+  anchor-root zero last i h o a e = absurd (omega arith)
+  anchor-root (suc k) last i h o a e = rw (o, a, eq-eqb (parentAt parents i) NONE e)
+
+  pub anchor-up : (k last i : ℕ) → occupied sequences i ≡ true → active flags i ≡ false → parentAt parents i ≢ NONE
+      → anchorFrom parents sequences flags (suc k) last i ≡ anchorFrom parents sequences flags k i (parentAt parents i)
+  unfolding anchorFrom
+  anchor-up k last i o a e = rw (o, a, ne-eqb (parentAt parents i) NONE e)

@@ -42,6 +42,9 @@ blocksOf h p s c f = record { hashes = h; parents = p; sequences = s; counts = c
 abbrev pub headsOf : (tips tails missing requested arrivals connected : List ℕ) → Heads
 headsOf t l m r a c = record { tips = t; tails = l; missing = m; requested = r; arrivals = a; connected = c }
 
+abbrev pub tablesOf : (hashes parents sequences counts flags tips tails missing requested arrivals connected : List ℕ) → Tables
+tablesOf h p s c f t l m r a k = record { blocks = blocksOf h p s c f; heads = headsOf t l m r a k }
+
 -- how many slots a field has; NONE_REF names none, so no table has more than that
 unfoldable pub slotsOf : List ℕ → ℕ
 slotsOf field = min (length field) NONE

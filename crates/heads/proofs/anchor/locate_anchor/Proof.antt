@@ -30,7 +30,7 @@ returns : tie.Need-returns Inv-loop μ-loop
 unfolding locateAnchor
 returns c =
     rw (← c .before .before .before .before .slots .ensures) (sym (c .before .before .before .loop .inv .1 ∙ anchor-empty _ _ _ (c .before .before .before .before .slots .result - c .before .before .before .loop .visits) (c .before .before .before .loop .last) (c .before .before .before .loop .current) (omega arith)
-      (sym (c .before .is-occupied .ensures) ∙ not-true (c .before .is-occupied .result) (c .if1 .taken))))
+    (sym (c .before .is-occupied .ensures) ∙ not-true (c .before .is-occupied .result) (c .if1 .taken))))
 
 is-on-active-chain-requires : tie.Need-is-on-active-chain-requires Inv-loop μ-loop
 is-on-active-chain-requires c κs = search needs
@@ -39,7 +39,7 @@ returns-2 : tie.Need-returns-2 Inv-loop μ-loop
 unfolding locateAnchor
 returns-2 c =
     rw (← c .before .before .before .before .before .before .slots .ensures) (sym (c .before .before .before .before .before .loop .inv .1 ∙ anchor-active _ _ _ (c .before .before .before .before .before .before .slots .result - c .before .before .before .before .before .loop .visits) (c .before .before .before .before .before .loop .last) (c .before .before .before .before .before .loop .current) (omega arith)
-      (sym (c .before .before .before .is-occupied .ensures) ∙ not-false (c .before .before .before .is-occupied .result) (c .before .before .if1 .left)) (sym (c .before .is-on-active-chain .ensures) ∙ c .if2 .taken)))
+    (sym (c .before .before .before .is-occupied .ensures) ∙ not-false (c .before .before .before .is-occupied .result) (c .before .before .if1 .left)) (sym (c .before .is-on-active-chain .ensures) ∙ c .if2 .taken)))
 
 word-at-requires : tie.Need-word-at-requires Inv-loop μ-loop
 word-at-requires c κs = search needs
@@ -48,7 +48,7 @@ returns-3 : tie.Need-returns-3 Inv-loop μ-loop
 unfolding locateAnchor
 returns-3 c =
     rw (← c .before .before .before .before .before .before .before .before .slots .ensures) (sym (c .before .before .before .before .before .before .before .loop .inv .1 ∙ anchor-root _ _ _ (c .before .before .before .before .before .before .before .before .slots .result - c .before .before .before .before .before .before .before .loop .visits) (c .before .before .before .before .before .before .before .loop .last) (c .before .before .before .before .before .before .before .loop .current) (omega arith)
-      (sym (c .before .before .before .before .before .is-occupied .ensures) ∙ not-false (c .before .before .before .before .before .is-occupied .result) (c .before .before .before .before .if1 .left)) (sym (c .before .before .before .is-on-active-chain .ensures) ∙ c .before .before .if2 .left) (sym (c .before .word-at .ensures) ∙ c .if3 .taken)))
+    (sym (c .before .before .before .before .before .is-occupied .ensures) ∙ not-false (c .before .before .before .before .before .is-occupied .result) (c .before .before .before .before .if1 .left)) (sym (c .before .before .before .is-on-active-chain .ensures) ∙ c .before .before .if2 .left) (sym (c .before .word-at .ensures) ∙ c .if3 .taken)))
 
 add-visits : tie.Need-add-visits Inv-loop μ-loop
 add-visits c = omega arith
@@ -59,10 +59,11 @@ loop-less c = omega arith
 loop-again : tie.Need-loop-again Inv-loop μ-loop
 loop-again c =
     let k : ℕ = c .before .before .before .before .before .before .before .before .slots .result - (c .before .before .before .before .before .before .before .loop .visits + 1) in
-    let e : c .before .before .before .before .before .before .before .before .slots .result - c .before .before .before .before .before .before .before .loop .visits ≡ suc k = omega arith in
-    ( omega arith
-    , c .before .before .before .before .before .before .before .loop .inv .1 ∙ rw (e, c .before .word-at .ensures) (anchor-up _ _ _ k (c .before .before .before .before .before .before .before .loop .last) (c .before .before .before .before .before .before .before .loop .current)
-        (sym (c .before .before .before .before .before .is-occupied .ensures) ∙ not-false (c .before .before .before .before .before .is-occupied .result) (c .before .before .before .before .if1 .left)) (sym (c .before .before .before .is-on-active-chain .ensures) ∙ c .before .before .if2 .left) (λ q. c .if3 .left (c .before .word-at .ensures ∙ q))))
+    let e : c .before .before .before .before .before .before .before .before .slots .result - c .before .before .before .before .before .before .before .loop .visits ≡ suc k = omega arith in (
+      omega arith,
+      c .before .before .before .before .before .before .before .loop .inv .1 ∙ rw (e, c .before .word-at .ensures) (anchor-up _ _ _ k (c .before .before .before .before .before .before .before .loop .last) (c .before .before .before .before .before .before .before .loop .current)
+          (sym (c .before .before .before .before .before .is-occupied .ensures) ∙ not-false (c .before .before .before .before .before .is-occupied .result) (c .before .before .before .before .if1 .left)) (sym (c .before .before .before .is-on-active-chain .ensures) ∙ c .before .before .if2 .left) (λ q. c .if3 .left (c .before .word-at .ensures ∙ q))),
+    )
 
 returns-4 : tie.Need-returns-4 Inv-loop μ-loop
 unfolding locateAnchor

@@ -30,7 +30,7 @@ returns : tie.Need-returns Inv-loop μ-loop
 unfolding knowing
 returns c =
     let e : lowest (waitsAt (c .before .before .before .before .before .before .before .before .args .tips .now) (c .before .before .before .before .before .before .before .before .args .tails .now) (c .before .before .before .before .before .before .before .before .args .connected .now) (c .before .before .before .before .before .before .before .before .args .tail .0)) (slotsOf (c .before .before .before .before .before .before .before .before .args .tips .now)) ≡ some (c .before .before .before .loop .k) =
-      lowest-at _ (c .before .before .before .loop .k) _ (c .before .before .before .loop .inv .1) (sym (c .before .waits-at .ensures) ∙ c .if1 .taken) (omega (arith, c .before .before .before .before .slots .ensures)) in
+    lowest-at _ (c .before .before .before .loop .k) _ (c .before .before .before .loop .inv .1) (sym (c .before .waits-at .ensures) ∙ c .if1 .taken) (omega (arith, c .before .before .before .before .slots .ensures)) in
     rw (e, knowing)
 
 add-k : tie.Need-add-k Inv-loop μ-loop
@@ -47,7 +47,7 @@ unfolding knowing
 returns-2 c =
     let d : c .before .loop .k ≡ c .before .before .slots .result = omega arith in
     let e : lowest (waitsAt (c .before .before .before .before .before .before .args .tips .now) (c .before .before .before .before .before .before .args .tails .now) (c .before .before .before .before .before .before .args .connected .now) (c .before .before .before .before .before .before .args .tail .0)) (slotsOf (c .before .before .before .before .before .before .args .tips .now)) ≡ none =
-      rw (← c .before .before .slots .ensures, ← d) (c .before .loop .inv .1) in
+    rw (← c .before .before .slots .ensures, ← d) (c .before .loop .inv .1) in
     rw (e, knowing)
 
 pub knowing-spec : {M : Type 1} → statement M

@@ -37,12 +37,13 @@ loop-less c = omega arith
 loop-again : tie.Need-loop-again Inv-loop μ-loop
 loop-again c =
     let l = c .before .before .before .loop in
-    let t = c .before .before .before .before .before .before .args .tips .now in
-    ( omega arith
-    , ⊎-elim
-        (λ w. w .1 ∙ rw (count-passes (used t) (l .k) (sym (c .before .is-used .ensures) ∙ w .0 .taken), ← l .inv .1))
-        (λ w. w .1 ∙ rw (count-fails (used t) (l .k) (sym (c .before .is-used .ensures) ∙ w .0 .left)) (l .inv .1))
-        (c .if1 .came))
+    let t = c .before .before .before .before .before .before .args .tips .now in (
+      omega arith,
+      ⊎-elim
+          (λ w. w .1 ∙ rw (count-passes (used t) (l .k) (sym (c .before .is-used .ensures) ∙ w .0 .taken), ← l .inv .1))
+          (λ w. w .1 ∙ rw (count-fails (used t) (l .k) (sym (c .before .is-used .ensures) ∙ w .0 .left)) (l .inv .1))
+          (c .if1 .came),
+    )
 
 returns : tie.Need-returns Inv-loop μ-loop
 returns c =

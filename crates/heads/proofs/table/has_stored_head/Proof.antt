@@ -28,7 +28,7 @@ is-stored-requires c κs = search needs
 returns : tie.Need-returns Inv-loop μ-loop
 returns c =
     let e : lowest (stored (c .before .before .before .before .before .before .before .args .tips .now) (c .before .before .before .before .before .before .before .args .connected .now)) (slotsOf (c .before .before .before .before .before .before .before .args .tips .now)) ≡ some (c .before .before .before .loop .k) =
-      lowest-at _ (c .before .before .before .loop .k) _ (c .before .before .before .loop .inv .1) (sym (c .before .is-stored .ensures) ∙ c .if1 .taken) (omega (arith, c .before .before .before .before .slots .ensures)) in
+    lowest-at _ (c .before .before .before .loop .k) _ (c .before .before .before .loop .inv .1) (sym (c .before .is-stored .ensures) ∙ c .if1 .taken) (omega (arith, c .before .before .before .before .slots .ensures)) in
     rw e
 
 add-k : tie.Need-add-k Inv-loop μ-loop

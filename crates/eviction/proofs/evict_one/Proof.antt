@@ -1,0 +1,98 @@
+-- Without a victim nothing changes.
+use mathlib.Core.Path.{_≡_, refl, sym, ap, _∙_}
+use Rattle.rules.specs.Answers.{headFound}
+use Rattle.rules.specs.Eviction.{evictOne}
+use borrow.Author.Needs.{needs}
+use Rattle.eviction.proofs.evict_one.Statement.{statement}
+use Rattle.eviction.proofs.evict_one.Tie as tie
+
+select-eviction-victim-requires : tie.Need-select-eviction-victim-requires
+select-eviction-victim-requires c κs = search needs
+
+enum-told : tie.Need-enum-told
+enum-told c = search needs
+
+enum-known-head : tie.Need-enum-known-head
+enum-known-head c = search needs
+
+evict-requires : tie.Need-evict-requires
+evict-requires c κs = search needs
+
+same-length : tie.Need-same-length
+same-length c = search needs
+
+same-length-2 : tie.Need-same-length-2
+same-length-2 c = search needs
+
+same-length-3 : tie.Need-same-length-3
+same-length-3 c = search needs
+
+returns : tie.Need-returns
+unfolding evictOne
+returns c =
+    let f = sym (c .before .before .select-eviction-victim .ensures) ∙ ap headFound (c .enum-told .given .1) in
+    rw (f, evictOne)
+
+same-length-4 : tie.Need-same-length-4
+same-length-4 c = search needs
+
+same-length-5 : tie.Need-same-length-5
+same-length-5 c = search needs
+
+same-length-6 : tie.Need-same-length-6
+same-length-6 c = search needs
+
+same-length-7 : tie.Need-same-length-7
+same-length-7 c = search needs
+
+same-length-8 : tie.Need-same-length-8
+same-length-8 c = search needs
+
+same-length-9 : tie.Need-same-length-9
+same-length-9 c = search needs
+
+same-length-10 : tie.Need-same-length-10
+same-length-10 c = search needs
+
+same-length-11 : tie.Need-same-length-11
+same-length-11 c = search needs
+
+same-length-12 : tie.Need-same-length-12
+same-length-12 c = search needs
+
+same-length-13 : tie.Need-same-length-13
+same-length-13 c = search needs
+
+same-length-14 : tie.Need-same-length-14
+same-length-14 c = search needs
+
+returns-2 : tie.Need-returns-2
+unfolding evictOne
+returns-2 c =
+    let f = sym (c .before .before .before .before .before .before .before .before .before .before .before .before .before .before .before .before .before .before .before .before .before .before .before .before .before .before .before .before .before .before .before .before .before .before .before .before .before .select-eviction-victim .ensures) ∙ ap headFound (c .before .before .before .before .before .before .before .before .before .before .before .before .before .before .before .before .before .before .before .before .before .before .before .before .before .before .before .before .before .before .before .before .before .before .before .head .given .1) in
+    rw (f, evictOne) (c .before .before .before .before .before .before .before .before .before .before .before .before .before .before .before .before .before .before .before .before .before .before .evict .ensures)
+
+pub evict-one-spec : {M : Type 1} → statement M
+evict-one-spec =
+    tie.close
+    (tie.spec
+    select-eviction-victim-requires
+    enum-told
+    enum-known-head
+    evict-requires
+    same-length
+    same-length-2
+    same-length-3
+    returns
+    same-length-4
+    same-length-5
+    same-length-6
+    same-length-7
+    same-length-8
+    same-length-9
+    same-length-10
+    same-length-11
+    same-length-12
+    same-length-13
+    same-length-14
+    returns-2)

@@ -30,7 +30,7 @@ unfolding better
 returns c =
     let f = ap headFound (c .before .before .before .before .before .best .given .1) in
     let e : blockBefore (c .before .before .before .before .before .before .before .before .before .before .args .hashes .now) (c .before .before .before .before .before .before .before .before .before .before .args .sequences .now) (tipAt (c .before .before .before .before .before .before .before .before .before .before .args .tips .now) (c .before .before .before .before .before .before .before .before .before .before .args .head .0)) (tipAt (c .before .before .before .before .before .before .before .before .before .before .args .tips .now) (c .before .before .before .before .before .best .given .0 .0 .0)) ≡ true =
-      rw (← c .before .before .before .word-at .ensures, ← c .before .before .word-at2 .ensures) (sym (c .before .block-before .ensures) ∙ c .if1 .taken) in
+    rw (← c .before .before .before .word-at .ensures, ← c .before .before .word-at2 .ensures) (sym (c .before .block-before .ensures) ∙ c .if1 .taken) in
     rw (f, better) (rw e)
 
 returns-2 : tie.Need-returns-2
@@ -44,7 +44,7 @@ unfolding better
 returns-3 c =
     let f = ap headFound (c .before .before .before .before .before .best .given .1) in
     let e : blockBefore (c .before .before .before .before .before .before .before .before .before .before .args .hashes .now) (c .before .before .before .before .before .before .before .before .before .before .args .sequences .now) (tipAt (c .before .before .before .before .before .before .before .before .before .before .args .tips .now) (c .before .before .before .before .before .before .before .before .before .before .args .head .0)) (tipAt (c .before .before .before .before .before .before .before .before .before .before .args .tips .now) (c .before .before .before .before .before .best .given .0 .0 .0)) ≡ false =
-      rw (← c .before .before .before .word-at .ensures, ← c .before .before .word-at2 .ensures) (sym (c .before .block-before .ensures) ∙ c .if1 .left) in
+    rw (← c .before .before .before .word-at .ensures, ← c .before .before .word-at2 .ensures) (sym (c .before .block-before .ensures) ∙ c .if1 .left) in
     rw (f, better) (rw e)
 
 pub better-victim-spec : {M : Type 1} → statement M

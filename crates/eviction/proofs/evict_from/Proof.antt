@@ -69,10 +69,13 @@ loop-again c =
     let b = blocksOf (l .hashes) (l .parents) (l .sequences) (l .counts) (l .flags) in
     let k : ℕ = c .before .before .before .before .before .before .before .before .before .before .before .before .before .before .before .before .before .before .before .before .before .slots .result - (l .visits + 1) in
     let e : c .before .before .before .before .before .before .before .before .before .before .before .before .before .before .before .before .before .before .before .before .before .slots .result - l .visits ≡ suc k = omega (arith, c .before .before .before .before .before .before .before .before .before .before .before .before .before .before .before .before .before .before .before .loop-test .taken) in
-    let g = walk-goes k b (l .current) _ (sym (v .ensures .0) ∙ ap slotFound (c .before .parent .given .1)) in
-    ( omega (arith, c .before .before .before .before .before .before .before .before .before .before .before .before .before .before .before .before .before .before .before .loop-test .taken)
-    , ( (v .kept .0 ∙ l .inv .1 .0 .0, (v .kept .1 .0 ∙ l .inv .1 .0 .1 .0, (v .kept .1 .1 .0 ∙ l .inv .1 .0 .1 .1 .0, (v .kept .1 .1 .1 .0 ∙ l .inv .1 .0 .1 .1 .1 .0, v .kept .1 .1 .1 .1 .0 ∙ l .inv .1 .0 .1 .1 .1 .1))))
-      , l .inv .1 .1 ∙ rw e (g ∙ rw (← v .ensures .1))))
+    let g = walk-goes k b (l .current) _ (sym (v .ensures .0) ∙ ap slotFound (c .before .parent .given .1)) in (
+      omega (arith, c .before .before .before .before .before .before .before .before .before .before .before .before .before .before .before .before .before .before .before .loop-test .taken),
+      (
+        (v .kept .0 ∙ l .inv .1 .0 .0, (v .kept .1 .0 ∙ l .inv .1 .0 .1 .0, (v .kept .1 .1 .0 ∙ l .inv .1 .0 .1 .1 .0, (v .kept .1 .1 .1 .0 ∙ l .inv .1 .0 .1 .1 .1 .0, v .kept .1 .1 .1 .1 .0 ∙ l .inv .1 .0 .1 .1 .1 .1)))),
+        l .inv .1 .1 ∙ rw e (g ∙ rw (← v .ensures .1)),
+      ),
+    )
 
 same-length-6 : tie.Need-same-length-6 Inv-loop μ-loop
 same-length-6 c = c .before .loop .inv .1 .0 .0

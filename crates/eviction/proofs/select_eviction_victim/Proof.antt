@@ -40,11 +40,12 @@ loop-again c =
     let l = c .before .before .loop in
     let a = c .before .before .before .before .before .before .before .args in
     let test : ℕ → Bool = mayGo (a .sequences .now) (a .tips .now) (a .active .0) in
-    let before : ℕ → ℕ → Bool = λ i j. blockBefore (a .hashes .now) (a .sequences .now) (tipAt (a .tips .now) i) (tipAt (a .tips .now) j) in
-    ( omega arith
-    , split (test (l .k))
-        (λ e. c .consider .ensures ∙ rw (e, best-passes test before (l .k) e, l .inv .1))
-        (λ e. c .consider .ensures ∙ rw (e, best-fails test before (l .k) e, l .inv .1)))
+    let before : ℕ → ℕ → Bool = λ i j. blockBefore (a .hashes .now) (a .sequences .now) (tipAt (a .tips .now) i) (tipAt (a .tips .now) j) in (
+      omega arith,
+      split (test (l .k))
+          (λ e. c .consider .ensures ∙ rw (e, best-passes test before (l .k) e, l .inv .1))
+          (λ e. c .consider .ensures ∙ rw (e, best-fails test before (l .k) e, l .inv .1)),
+    )
 
 returns : tie.Need-returns Inv-loop μ-loop
 unfolding victim

@@ -1,6 +1,8 @@
 pub mod Splits
 pub mod Cells
 pub mod Search
+pub mod Best
+pub mod Rank
 pub mod Hashes
 pub mod Walks
 pub mod Marked

@@ -1,0 +1,52 @@
+-- Nothing so far, due before it, or not.
+use Prim.Native.Nat.{_<_, _≤_}
+use mathlib.Core.Path.{_≡_, sym, _∙_, ap}
+use mathlib.Core.Option.{Option, none, some}
+use borrow.Author.Tests.{lt-ltb, le-ltb}
+use Rattle.rules.specs.Common.{better}
+use Rattle.rules.specs.Answers.{headFound}
+use borrow.Author.Needs.{needs}
+use Rattle.timer.proofs.better_due.Statement.{statement}
+use Rattle.timer.proofs.better_due.Tie as tie
+
+enum-known-found : tie.Need-enum-known-found
+enum-known-found c = search needs
+
+enum-told : tie.Need-enum-told
+enum-told c = search needs
+
+returns : tie.Need-returns
+unfolding better
+returns c =
+    let f = ap headFound (c .enum-told .given .1) in
+    rw (f, better)
+
+due-at-requires : tie.Need-due-at-requires
+due-at-requires c κs = search needs
+
+due-at-requires-2 : tie.Need-due-at-requires-2
+due-at-requires-2 c κs = search needs
+
+returns-2 : tie.Need-returns-2
+unfolding better
+returns-2 c =
+    let f = ap headFound (c .before .before .before .before .found .given .1) in
+    rw (f, better, ← c .before .before .due-at .ensures, ← c .before .due-at2 .ensures) (rw (lt-ltb _ _ (c .if1 .taken)))
+
+returns-3 : tie.Need-returns-3
+unfolding better
+returns-3 c =
+    let f = ap headFound (c .before .before .before .before .found .given .1) in
+    rw (f, better, ← c .before .before .due-at .ensures, ← c .before .due-at2 .ensures) (rw (le-ltb _ _ (c .if1 .left)))
+
+pub better-due-spec : {M : Type 1} → statement M
+better-due-spec =
+    tie.close
+    (tie.spec
+    enum-known-found
+    enum-told
+    returns
+    due-at-requires
+    due-at-requires-2
+    returns-2
+    returns-3)

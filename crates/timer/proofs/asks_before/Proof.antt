@@ -1,7 +1,7 @@
 -- Request times first, then the tips.
 use native.Mathlib.Omega.{arith}
 use Prim.Native.Nat.{_<_, _≤_}
-use mathlib.Core.Path.{_≡_, refl, sym, _∙_}
+use mathlib.Core.Path.{sym, _∙_}
 use borrow.Author.Tests.{lt-ltb, le-ltb, eq-eqb, ne-eqb}
 use Rattle.rules.specs.Records.{requestedAt}
 use Rattle.rules.specs.Timer.{asksBefore}
@@ -18,13 +18,15 @@ time-at-requires-2 c κs = search needs
 returns : tie.Need-returns
 unfolding asksBefore
 returns c =
-    let l : requestedAt (c .before .before .before .before .before .before .before .args .requested .now) (c .before .before .before .before .before .before .before .args .a .0) < requestedAt (c .before .before .before .before .before .before .before .args .requested .now) (c .before .before .before .before .before .before .before .args .b .0) = omega (arith, c .before .before .time-at .ensures, c .before .time-at2 .ensures, c .if1 .taken) in
+    let a = c .before .before .before .before .before .before .before .args in
+    let l : requestedAt (a .requested .now) (a .a .0) < requestedAt (a .requested .now) (a .b .0) = omega (arith, c .before .before .time-at .ensures, c .before .time-at2 .ensures, c .if1 .taken) in
     rw (lt-ltb _ _ l)
 
 returns-2 : tie.Need-returns-2
 unfolding asksBefore
 returns-2 c =
-    let l : requestedAt (c .before .before .before .before .before .before .before .before .args .requested .now) (c .before .before .before .before .before .before .before .before .args .b .0) ≤ requestedAt (c .before .before .before .before .before .before .before .before .args .requested .now) (c .before .before .before .before .before .before .before .before .args .a .0) = omega (arith, c .before .before .before .time-at .ensures, c .before .before .time-at2 .ensures, c .before .if1 .left) in
+    let a = c .before .before .before .before .before .before .before .before .args in
+    let l : requestedAt (a .requested .now) (a .b .0) ≤ requestedAt (a .requested .now) (a .a .0) = omega (arith, c .before .before .before .time-at .ensures, c .before .before .time-at2 .ensures, c .before .if1 .left) in
     rw (le-ltb _ _ l, ne-eqb _ _ (λ q. c .if2 .taken (c .before .before .before .time-at .ensures ∙ q ∙ sym (c .before .before .time-at2 .ensures))))
 
 word-at-requires : tie.Need-word-at-requires
@@ -39,7 +41,8 @@ block-before-requires c κs = search needs
 returns-3 : tie.Need-returns-3
 unfolding asksBefore
 returns-3 c =
-    let l : requestedAt (c .before .before .before .before .before .before .before .before .before .before .before .args .requested .now) (c .before .before .before .before .before .before .before .before .before .before .before .args .b .0) ≤ requestedAt (c .before .before .before .before .before .before .before .before .before .before .before .args .requested .now) (c .before .before .before .before .before .before .before .before .before .before .before .args .a .0) = omega (arith, c .before .before .before .before .before .before .time-at .ensures, c .before .before .before .before .before .time-at2 .ensures, c .before .before .before .before .if1 .left) in
+    let a = c .before .before .before .before .before .before .before .before .before .before .before .args in
+    let l : requestedAt (a .requested .now) (a .b .0) ≤ requestedAt (a .requested .now) (a .a .0) = omega (arith, c .before .before .before .before .before .before .time-at .ensures, c .before .before .before .before .before .time-at2 .ensures, c .before .before .before .before .if1 .left) in
     rw (le-ltb _ _ l, eq-eqb _ _ (sym (c .before .before .before .before .before .before .time-at .ensures) ∙ c .before .before .before .if2 .left ∙ c .before .before .before .before .before .time-at2 .ensures), ← c .before .before .word-at .ensures, ← c .before .word-at2 .ensures) (c .block-before .ensures)
 
 pub asks-before-spec : {M : Type 1} → statement M

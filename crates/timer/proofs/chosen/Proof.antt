@@ -1,9 +1,9 @@
 -- The best of the heads before `k`.
 use borrow.Author.Needs.{needs}
 use native.Mathlib.Omega.{arith}
-use Prim.Native.Nat.{ℕ, _≤_, _-_, _+_}
+use Prim.Native.Nat.{_≤_, _-_}
 use mathlib.Core.Path.{_≡_, sym, _∙_}
-use Rattle.rules.specs.Common.{best}
+use Rattle.rules.specs.Common.{if_then_else_, better, best}
 use Rattle.rules.specs.Answers.{headFound}
 use Rattle.rules.specs.Timer.{mayAsk, asksBefore, chosen}
 use Rattle.rules.proofs.Best.{best-none, best-next}
@@ -32,7 +32,13 @@ loop-less : tie.Need-loop-less Inv-loop μ-loop
 loop-less c = omega arith
 
 loop-again : tie.Need-loop-again Inv-loop μ-loop
-loop-again c = (omega arith, c .ask-turn .ensures ∙ rw (c .before .before .loop .inv .1) (sym (best-next _ _ (c .before .before .loop .k))))
+loop-again c =
+    let a = c .before .before .before .before .before .before .before .before .before .args in
+    let test = mayAsk (a .sequences .now) (a .tips .now) (a .requested .now) (a .connected .now) (a .clock) (a .retry) in
+    let before = asksBefore (a .hashes .now) (a .sequences .now) (a .tips .now) (a .requested .now) in
+    let found = headFound (c .before .before .loop .found) in
+    let e : headFound (c .ask-turn .result) ≡ (if test (c .before .before .loop .k) then better before (c .before .before .loop .k) found else found) = c .ask-turn .ensures in
+    (omega arith, e ∙ rw (c .before .before .loop .inv .1) (sym (best-next test before (c .before .before .loop .k))))
 
 returns : tie.Need-returns Inv-loop μ-loop
 unfolding chosen

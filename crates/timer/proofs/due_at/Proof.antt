@@ -1,5 +1,5 @@
 -- The due time of its request time.
-use mathlib.Core.Path.{_≡_, _∙_}
+use mathlib.Core.Path.{_∙_}
 use borrow.Author.Needs.{needs}
 use Rattle.timer.proofs.due_at.Statement.{statement}
 use Rattle.timer.proofs.due_at.Tie as tie

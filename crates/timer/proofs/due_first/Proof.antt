@@ -1,7 +1,7 @@
 -- The first due of the heads before `k`.
 use borrow.Author.Needs.{needs}
 use native.Mathlib.Omega.{arith}
-use Prim.Native.Nat.{ℕ, _≤_, _-_, _+_}
+use Prim.Native.Nat.{ℕ, _≤_, _-_}
 use mathlib.Core.Path.{_≡_, sym, _∙_}
 use lib.Dec.{ltb}
 use Rattle.rules.specs.Common.{best}

@@ -1,6 +1,6 @@
 -- None is stored, or the one that is due first tells.
-use mathlib.Core.Path.{_≡_, sym, _∙_, ap}
-use mathlib.Core.Option.{Option, none, some}
+use mathlib.Core.Path.{sym, _∙_, ap}
+use mathlib.Core.Option.{some}
 use Rattle.rules.specs.Answers.{headFound}
 use Rattle.rules.specs.Timer.{deadline}
 use borrow.Author.Needs.{needs}

@@ -1,6 +1,5 @@
 -- At once, held at the maximum, or the sum.
 use native.Mathlib.Omega.{arith}
-use mathlib.Core.Path.{_≡_}
 use borrow.Author.Tests.{eq-eqb, ne-eqb}
 use Rattle.rules.specs.Timer.{due}
 use borrow.Author.Needs.{needs}

@@ -15,7 +15,8 @@ is-stored-requires c κs = search needs
 returns : tie.Need-returns
 unfolding mayAsk
 returns c =
-    let e : stored (c .before .before .before .before .before .before .args .tips .now) (c .before .before .before .before .before .before .args .connected .now) (c .before .before .before .before .before .before .args .head .0) ≡ false = sym (c .before .is-stored .ensures) ∙ not-true (c .before .is-stored .result) (c .if1 .taken) in
+    let a = c .before .before .before .before .before .before .args in
+    let e : stored (a .tips .now) (a .connected .now) (a .head .0) ≡ false = sym (c .before .is-stored .ensures) ∙ not-true (c .before .is-stored .result) (c .if1 .taken) in
     rw e
 
 time-at-requires : tie.Need-time-at-requires
@@ -27,9 +28,10 @@ head-eligible-at-requires c κs = search needs
 returns-2 : tie.Need-returns-2
 unfolding mayAsk
 returns-2 c =
-    let e : stored (c .before .before .before .before .before .before .before .before .before .args .tips .now) (c .before .before .before .before .before .before .before .before .before .args .connected .now) (c .before .before .before .before .before .before .before .before .before .args .head .0) ≡ true = sym (c .before .before .before .before .is-stored .ensures) ∙ not-false (c .before .before .before .before .is-stored .result) (c .before .before .before .if1 .left) in
-    let d : c .before .head-eligible-at .result ≡ due (requestedAt (c .before .before .before .before .before .before .before .before .before .args .requested .now) (c .before .before .before .before .before .before .before .before .before .args .head .0)) (c .before .before .before .before .before .before .before .before .before .args .retry) = c .before .head-eligible-at .ensures ∙ rw (c .before .before .time-at .ensures) in
-    let l : c .before .before .before .before .before .before .before .before .before .args .clock < due (requestedAt (c .before .before .before .before .before .before .before .before .before .args .requested .now) (c .before .before .before .before .before .before .before .before .before .args .head .0)) (c .before .before .before .before .before .before .before .before .before .args .retry) = rw d at (c .if2 .taken) in
+    let a = c .before .before .before .before .before .before .before .before .before .args in
+    let e : stored (a .tips .now) (a .connected .now) (a .head .0) ≡ true = sym (c .before .before .before .before .is-stored .ensures) ∙ not-false (c .before .before .before .before .is-stored .result) (c .before .before .before .if1 .left) in
+    let d : c .before .head-eligible-at .result ≡ due (requestedAt (a .requested .now) (a .head .0)) (a .retry) = c .before .head-eligible-at .ensures ∙ rw (c .before .before .time-at .ensures) in
+    let l : a .clock < due (requestedAt (a .requested .now) (a .head .0)) (a .retry) = rw d at (c .if2 .taken) in
     rw (e, lt-leb _ _ l)
 
 word-at-requires : tie.Need-word-at-requires
@@ -41,9 +43,10 @@ is-occupied-requires c κs = search needs
 returns-3 : tie.Need-returns-3
 unfolding mayAsk
 returns-3 c =
-    let e : stored (c .before .before .before .before .before .before .before .before .before .before .before .args .tips .now) (c .before .before .before .before .before .before .before .before .before .before .before .args .connected .now) (c .before .before .before .before .before .before .before .before .before .before .before .args .head .0) ≡ true = sym (c .before .before .before .before .before .before .is-stored .ensures) ∙ not-false (c .before .before .before .before .before .before .is-stored .result) (c .before .before .before .before .before .if1 .left) in
-    let d : c .before .before .before .head-eligible-at .result ≡ due (requestedAt (c .before .before .before .before .before .before .before .before .before .before .before .args .requested .now) (c .before .before .before .before .before .before .before .before .before .before .before .args .head .0)) (c .before .before .before .before .before .before .before .before .before .before .before .args .retry) = c .before .before .before .head-eligible-at .ensures ∙ rw (c .before .before .before .before .time-at .ensures) in
-    let l : due (requestedAt (c .before .before .before .before .before .before .before .before .before .before .before .args .requested .now) (c .before .before .before .before .before .before .before .before .before .before .before .args .head .0)) (c .before .before .before .before .before .before .before .before .before .before .before .args .retry) ≤ c .before .before .before .before .before .before .before .before .before .before .before .args .clock = rw d at (c .before .before .if2 .left) in
+    let a = c .before .before .before .before .before .before .before .before .before .before .before .args in
+    let e : stored (a .tips .now) (a .connected .now) (a .head .0) ≡ true = sym (c .before .before .before .before .before .before .is-stored .ensures) ∙ not-false (c .before .before .before .before .before .before .is-stored .result) (c .before .before .before .before .before .if1 .left) in
+    let d : c .before .before .before .head-eligible-at .result ≡ due (requestedAt (a .requested .now) (a .head .0)) (a .retry) = c .before .before .before .head-eligible-at .ensures ∙ rw (c .before .before .before .before .time-at .ensures) in
+    let l : due (requestedAt (a .requested .now) (a .head .0)) (a .retry) ≤ a .clock = rw d at (c .before .before .if2 .left) in
     rw (e, le-leb _ _ l, ← c .before .word-at .ensures) (c .is-occupied .ensures)
 
 pub may-ask-spec : {M : Type 1} → statement M

@@ -1,6 +1,5 @@
 -- None is chosen, or the chosen head is asked for.
-use mathlib.Core.Path.{_≡_, sym, _∙_, ap}
-use mathlib.Core.Option.{Option, none, some}
+use mathlib.Core.Path.{sym, _∙_, ap}
 use Rattle.rules.specs.Answers.{headFound}
 use Rattle.rules.specs.Timer.{recovery}
 use borrow.Author.Needs.{needs}

@@ -1,5 +1,5 @@
 -- Values first, then lengths, then hashes.
-use mathlib.Core.Path.{_≡_, sym, _∙_}
+use mathlib.Core.Path.{sym, _∙_}
 use Rattle.rules.proofs.Rank.{outranks-value, outranks-length, outranks-hash}
 use borrow.Author.Needs.{needs}
 use Rattle.branch_value.proofs.Rank.outranks.Statement.{statement}

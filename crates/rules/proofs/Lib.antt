@@ -4,4 +4,5 @@ pub mod Search
 pub mod Best
 pub mod Hashes
 pub mod Walks
+pub mod Rank
 pub mod Marked

@@ -4,3 +4,5 @@ pub mod Search
 pub mod Hashes
 pub mod Walks
 pub mod Marked
+pub mod Each
+pub mod Freed

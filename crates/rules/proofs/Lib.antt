@@ -6,3 +6,5 @@ pub mod Hashes
 pub mod Walks
 pub mod Rank
 pub mod Marked
+pub mod Each
+pub mod Freed

@@ -22,6 +22,9 @@ pub record State : Type 0 where
   pub tables : Tables
   pub activeHead : ℕ
 
+abbrev pub stateOf : Tables → ℕ → State
+stateOf t activeHead = record { tables = t; activeHead = activeHead }
+
 pub record Stepped : Type 0 where
   pub after : State
   pub answer : Answer

@@ -21,8 +21,8 @@ returns-2 c =
     let h = c .before .before .args .higher in
     let l = c .before .before .args .lower .0 in
     split (eqb (h - 1) l)
-      (λ e. e ∙ sym (eq-eqb h (suc l) (omega (arith, eqb-true (h - 1) l e, c .before .if1 .left))))
-      (λ e. e ∙ sym (ne-eqb h (suc l) (λ q. absurd (omega (arith, eqb-false (h - 1) l e)))))
+    (λ e. e ∙ sym (eq-eqb h (suc l) (omega (arith, eqb-true (h - 1) l e, c .before .if1 .left))))
+    (λ e. e ∙ sym (ne-eqb h (suc l) (λ q. absurd (omega (arith, eqb-false (h - 1) l e)))))
 
 pub comes-after-spec : {M : Type 1} → statement M
 comes-after-spec = tie.close (tie.spec returns sub-result returns-2)

@@ -4,3 +4,4 @@ pub mod Search
 pub mod Hashes
 pub mod Walks
 pub mod Marked
+pub mod Kept

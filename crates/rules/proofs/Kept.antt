@@ -7,3 +7,6 @@ pub mod Slots
 pub mod Ends
 pub mod Freed
 pub mod Steady
+pub mod Seats
+pub mod Frame
+pub mod Leaves

@@ -10,3 +10,5 @@ pub mod Steady
 pub mod Seats
 pub mod Frame
 pub mod Leaves
+pub mod EvictHead
+pub mod Place

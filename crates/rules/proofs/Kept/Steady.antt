@@ -127,3 +127,8 @@ freed-ends t i u (frees t′ i′ u′ e b h r) j a o x = let w = erase-but t i 
       (λ k _ ok _. childless t i k h ok)
       (λ k ne. (but-holds t (erase t i) i w k ne, but-chain t (erase t i) i w k ne, but-parent t (erase t i) i w k ne))
       j a (λ q. true-not-false {b = holds (erase t i) j} (freed-back (erase t i) (parentOf t i) u r j o .0) (rw q (erase-empty t i))) x)
+
+pub freed-size : (t : Blocks) (i : ℕ) (u : Blocks) → Freed t i u → size u ≡ size t
+freed-size t i u (off t′ i′ e) = refl
+freed-size t i u (keeps t′ i′ c e h) = refl
+freed-size t i u (frees t′ i′ u′ e b h r) = freed-size (erase t i) (parentOf t i) u r ∙ erase-but t i .sizes

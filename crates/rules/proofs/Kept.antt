@@ -12,3 +12,5 @@ pub mod Frame
 pub mod Leaves
 pub mod EvictHead
 pub mod Place
+pub mod Settle
+pub mod Insert

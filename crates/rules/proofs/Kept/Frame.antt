@@ -11,13 +11,14 @@ use Rattle.rules.specs.Common.{lowest}
 use Rattle.rules.specs.Records.{NONE, Blocks, Heads, slotsOf}
 use Rattle.rules.specs.Anchor.{Anchor, connection, tail}
 use Rattle.rules.specs.Caches.{slotOfHead}
-use Rattle.rules.specs.Promises.{childrenOf}
+use Rattle.rules.specs.Promises.{childrenOf, headAt}
+use Rattle.rules.specs.declared.Head.{Head}
 use Rattle.rules.proofs.Splits.{split, same?, and-true, and-both, true-not-false}
 use Rattle.rules.proofs.Search.{lowest-holds, lowest-misses}
 use Rattle.rules.proofs.Kept.Table.{size, seqOf, parentOf, countOf, holds, onChain, Shape, Linked, Kept, holds-real}
 use Rattle.rules.proofs.Kept.Slots.{Voids}
 use Rattle.rules.proofs.Kept.Ends.{Ends}
-use Rattle.rules.proofs.Kept.Seats.{room, tipOf, inUse, kept, Room, use-lt, head-slots, Seat, seat-tip, seat-use, seat-kept, seat-taken, Blanks, seat-blanks}
+use Rattle.rules.proofs.Kept.Seats.{room, tipOf, inUse, kept, keptBy, Room, use-lt, head-slots, Seat, seat-tip, seat-use, seat-kept, seat-taken, Blanks, seat-blanks}
 
 abbrev pub Apart : Heads → Type 0
 Apart h = (s r : ℕ) → inUse h s ≡ true → inUse h r ≡ true → tipOf h s ≡ tipOf h r → s ≡ r
@@ -42,11 +43,12 @@ pub record Good (t : Blocks) (h : Heads) (top : ℕ) (C : ℕ → Type 0) : Type
   pub anchored : (s : ℕ) → inUse h s ≡ true → Ends t (tipOf h s) (kept h s)
 
 -- a stored head whose tail has got a parent
-abbrev pub Late : Blocks → Heads → ℕ → Type 0
-Late t h s = (i : ℕ) × (kept h s ≡ tail i) × (holds t i ≡ true) × (parentOf t i ≢ NONE)
+abbrev pub Late : Blocks → Head → Type 0
+Late t head = (i : ℕ) × (keptBy head ≡ tail i) × (holds t i ≡ true) × (parentOf t i ≢ NONE)
 
-abbrev pub Loose : Blocks → Heads → Type 0
-Loose t h = (s : ℕ) → inUse h s ≡ true → Ends t (tipOf h s) (kept h s) ⊎ Late t h s
+-- a head's anchor is right, or something else is true of the head
+abbrev pub Apt : Blocks → Heads → (Head → Type 0) → Type 0
+Apt t h need = (s : ℕ) → inUse h s ≡ true → Ends t (tipOf h s) (kept h s) ⊎ need (headAt h s)
 
 -- every childless block off the chain has a head
 abbrev pub All : ℕ → Type 0

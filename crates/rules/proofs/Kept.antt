@@ -14,3 +14,6 @@ pub mod EvictHead
 pub mod Place
 pub mod Settle
 pub mod Insert
+pub mod Arrive
+pub mod Link
+pub mod LinkLoop

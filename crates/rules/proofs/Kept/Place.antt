@@ -63,21 +63,21 @@ pub record New (t : Blocks) (h : Heads) (top x : ℕ) (b : Bool) (C : ℕ → Ty
   pub bottom : childrenOf t x ≡ 0
   pub bare : (r : ℕ) → inUse h r ≡ true → tipOf h r ≢ x
 
--- w is left of t and h; y is a slot written since
-pub record Done (y : ℕ) (t : Blocks) (h : Heads) (w : Tables) (top x : ℕ) (b : Bool) (D : ℕ → Type 0) : Type 1 where
+-- w is left of t and h
+pub record Done (t : Blocks) (h : Heads) (w : Tables) (top x : ℕ) (b : Bool) (D : ℕ → Type 0) : Type 1 where
   pub good : Good (w .blocks) (w .heads) top D
   pub home : holds (w .blocks) x ≡ true
   pub fresh : onChain (w .blocks) x ≡ b
-  pub steady : Steady y t (w .blocks)
+  pub steady : Steady NONE t (w .blocks)
   pub sizes : size (w .blocks) ≡ size t
   -- the heads are the old ones and x's
   pub from : (P : ℕ → Type 0) → P x → ((r : ℕ) → inUse h r ≡ true → P (tipOf h r)) → (r : ℕ) → inUse (w .heads) r ≡ true → P (tipOf (w .heads) r)
 
-module _ (y : ℕ) (t : Blocks) (h : Heads) (top x arrival arriving : ℕ) (previous : List ℕ) (b : Bool) (C D : ℕ → Type 0) (cd : (i : ℕ) → D i → i ≢ x → C i) (n : New t h top x b C) where
+module _ (t : Blocks) (h : Heads) (top x arrival arriving : ℕ) (previous : List ℕ) (b : Bool) (C D : ℕ → Type 0) (cd : (i : ℕ) → D i → i ≢ x → C i) (n : New t h top x b C) where
   abbrev seated : ℕ → Heads
   seated k = recomputeHead t (putHead h k (newHead x arrival)) k arriving previous
 
-  put-done : (k : ℕ) → k < room h → inUse h k ≡ false → Done y t h (record { blocks = t; heads = seated k }) top x b D
+  put-done : (k : ℕ) → k < room h → inUse h k ≡ false → Done t h (record { blocks = t; heads = seated k }) top x b D
   put-done k l free =
       let r = n .good .frame .roomy in
       let p = put-seat h k (newHead x arrival) zero-length in
@@ -91,7 +91,7 @@ module _ (y : ℕ) (t : Blocks) (h : Heads) (top x arrival arriving : ℕ) (prev
           (rw e (anchor-ends t x (f .counts .shape) (f .counts .linked) (n .home)));
         home = n .home;
         fresh = n .fresh;
-        steady = steady-refl y t;
+        steady = steady-refl NONE t;
         sizes = refl;
         from = λ P px old v uv. same? v k
           (λ q. rw (q, s .here l) px)
@@ -102,7 +102,7 @@ module _ (y : ℕ) (t : Blocks) (h : Heads) (top x arrival arriving : ℕ) (prev
   unfolding seatHead
   seat-some k e = rw (e, seatHead)
 
-  pub seat-done : (v : ℕ) → v < room h → inUse h v ≡ false → Done y t h (seatHead (record { blocks = t; heads = h }) x arrival arriving previous) top x b D
+  pub seat-done : (v : ℕ) → v < room h → inUse h v ≡ false → Done t h (seatHead (record { blocks = t; heads = h }) x arrival arriving previous) top x b D
   seat-done v l free = option? (firstEmpty (h .tips))
       (λ c. true-not-false {b = inUse h v} (empty-none h v (n .good .frame .roomy) c l) free)
       (λ k c. let p = empty-some h k (n .good .frame .roomy) c in rw (seat-some k c) (put-done k (p .0) (p .1)))
@@ -122,13 +122,13 @@ module _ (y : ℕ) (t : Blocks) (h : Heads) (top x arrival arriving : ℕ) (prev
       }
 
 -- the walk before the empty slot is taken
-done-after : (y : ℕ) (t u : Blocks) (h : Heads) (w : Tables) (top x v : ℕ) (b : Bool) (D : ℕ → Type 0) → Freed t (tipOf h v) u
-    → Done y u (clear h v) w top x b D → Done y t h w top x b D
-done-after y t u h w top x v b D tr d = record {
+done-after : (t u : Blocks) (h : Heads) (w : Tables) (top x v : ℕ) (b : Bool) (D : ℕ → Type 0) → Freed t (tipOf h v) u
+    → Done u (clear h v) w top x b D → Done t h w top x b D
+done-after t u h w top x v b D tr d = record {
     good = d .good;
     home = d .home;
     fresh = d .fresh;
-    steady = steady-trans y t u (w .blocks) (freed-steady y t (tipOf h v) u tr) (d .steady);
+    steady = steady-trans NONE t u (w .blocks) (freed-steady NONE t (tipOf h v) u tr) (d .steady);
     sizes = d .sizes ∙ freed-size t (tipOf h v) u tr;
     from = λ P px old r ur. d .from P px (λ s us. let c = clear-other h v s us in rw (seat-tip h (clear h v) v NONE (clear-seat h v) s (c .0)) (old s (c .1))) r ur
   }
@@ -144,10 +144,10 @@ room-made : (t : Blocks) (h : Heads) (top v : ℕ) → Shape t → firstEmpty (h
 unfolding makeRoom
 room-made t h top v s e f = rw (e, makeRoom) (evict-one t h top v s f)
 
-pub insert-done : (y : ℕ) (t : Blocks) (h : Heads) (top x arrival arriving : ℕ) (previous : List ℕ) (b : Bool) (C D : ℕ → Type 0) (cd : (i : ℕ) → D i → i ≢ x → C i)
-    → New t h top x b C → Done y t h (insertHead (record { blocks = t; heads = h }) x arrival arriving previous top) top x b D
+pub insert-done : (t : Blocks) (h : Heads) (top x arrival arriving : ℕ) (previous : List ℕ) (b : Bool) (C D : ℕ → Type 0) (cd : (i : ℕ) → D i → i ≢ x → C i)
+    → New t h top x b C → Done t h (insertHead (record { blocks = t; heads = h }) x arrival arriving previous top) top x b D
 unfolding insertHead
-insert-done y t h top x arrival arriving previous b C D cd n =
+insert-done t h top x arrival arriving previous b C D cd n =
     let f = n .good .frame in
     let s = f .counts .shape in
     option? (firstEmpty (h .tips))
@@ -156,10 +156,10 @@ insert-done y t h top x arrival arriving previous b C D cd n =
         (λ v e.
           let w = victim-some (t .hashes) (t .sequences) (h .tips) top v e in
           let u : Blocks = evictFrom (size t) t (tipOf h v) in
-          rw (room-made t h top v s c e) (done-after y t u h (seatHead (record { blocks = u; heads = clear h v }) x arrival arriving previous) top x v b D
+          rw (room-made t h top v s c e) (done-after t u h (seatHead (record { blocks = u; heads = clear h v }) x arrival arriving previous) top x v b D
             (trace t h top C (n .good) v (w .0) (w .1))
-            (seat-done y u (clear h v) top x arrival arriving previous b C D cd (after y t h top x arrival arriving previous b C D cd n v (w .0) (w .1))
+            (seat-done u (clear h v) top x arrival arriving previous b C D cd (after t h top x arrival arriving previous b C D cd n v (w .0) (w .1))
               v (rw (clear-seat h v .rooms) (use-lt h v (w .0))) (clear-here h v)))))
       (λ k c.
         let p = empty-some h k (f .roomy) c in
-        rw (room-there t h top k c) (seat-done y t h top x arrival arriving previous b C D cd n k (p .0) (p .1)))
+        rw (room-there t h top k c) (seat-done t h top x arrival arriving previous b C D cd n k (p .0) (p .1)))

@@ -17,3 +17,5 @@ pub mod Insert
 pub mod Arrive
 pub mod Link
 pub mod LinkLoop
+pub mod Refresh
+pub mod Admit

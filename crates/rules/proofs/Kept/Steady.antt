@@ -8,7 +8,7 @@ use Rattle.rules.specs.Records.{NONE, Blocks, occupied, active}
 use Rattle.rules.specs.Anchor.{Anchor, connection, tail}
 use Rattle.rules.specs.Promises.{childrenOf}
 use Rattle.rules.proofs.Splits.{split, same?, true-not-false}
-use Rattle.rules.proofs.Kept.Table.{size, seqOf, parentOf, countOf, hashOf, holds, onChain, setCount, Shape, holds-lt, childless}
+use Rattle.rules.proofs.Kept.Table.{size, seqOf, parentOf, countOf, hashOf, holds, onChain, setCount, Shape, holds-lt, holds-real, childless}
 use Rattle.rules.proofs.Kept.Slots.{But, but-seq, but-parent, but-hash, but-chain, but-holds, erase, erase-but, erase-empty, erase-kids-other, erase-kids-parent, count-kids}
 use Rattle.rules.proofs.Kept.Ends.{Ends, at-active, at-root, goes-on}
 use Rattle.rules.proofs.Kept.Freed.{Freed, off, keeps, frees}
@@ -34,6 +34,10 @@ steady-trans x t u v a b = record {
       let q = a .same i ne (p .0) in
       (q .0, p .1 ∙ q .1, p .2 ∙ q .2)
   }
+
+-- an exception more does no harm
+pub steady-any : (x : ℕ) (t u : Blocks) → Shape u → Steady NONE t u → Steady x t u
+steady-any x t u s a = record { keeps = a .keeps; back = a .back; same = λ i _ o. a .same i (holds-real u i s o) o }
 
 -- one slot changes, and stays what it was but for its count, or its parent where it had none
 pub but-steady : (x : ℕ) (t u : Blocks) (i : ℕ) → But t u i → holds u i ≡ holds t i → onChain u i ≡ onChain t i → seqOf u i ≡ seqOf t i → hashOf u i ≡ hashOf t i

@@ -19,3 +19,5 @@ pub mod Link
 pub mod LinkLoop
 pub mod Refresh
 pub mod Admit
+pub mod Recomputed
+pub mod Promote

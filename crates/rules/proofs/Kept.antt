@@ -21,3 +21,5 @@ pub mod Refresh
 pub mod Admit
 pub mod Recomputed
 pub mod Promote
+pub mod Mark
+pub mod Sweep

@@ -23,3 +23,5 @@ pub mod Recomputed
 pub mod Promote
 pub mod Mark
 pub mod Sweep
+pub mod Drop
+pub mod Remove

@@ -25,3 +25,5 @@ pub mod Mark
 pub mod Sweep
 pub mod Drop
 pub mod Remove
+pub mod Empty
+pub mod Rebuild

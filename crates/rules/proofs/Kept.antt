@@ -27,3 +27,5 @@ pub mod Drop
 pub mod Remove
 pub mod Empty
 pub mod Rebuild
+pub mod Walked
+pub mod Border

@@ -29,3 +29,5 @@ pub mod Empty
 pub mod Rebuild
 pub mod Walked
 pub mod Border
+pub mod Went
+pub mod Steps

@@ -126,7 +126,7 @@ module _ (s : State) (k : ℕ) (sh : Shape (blocksOf s)) (l : Linked (blocksOf s
 
 -- ---- the whole
 
-line-active : (s : State) (i : ℕ) → OnLine s i → Active s i
+pub line-active : (s : State) (i : ℕ) → OnLine s i → Active s i
 line-active s i (start a) = a
 line-active s i (down j x a) = a
 

@@ -23,7 +23,7 @@ use Rattle.rules.proofs.Kept.Seats.{room, tipOf, inUse, kept, keptBy, a
 use Rattle.rules.proofs.Kept.Frame.{Frame, Good, Late, Apt, head-some, head-none}
 use Rattle.rules.proofs.Kept.Settle.{Redone, Turn, redone, loop-frame, loop-apt, loop-good}
 
-stored-use : (h : Heads) (k : ℕ) → stored (h .tips) (h .connected) k ≡ true → inUse h k ≡ true
+pub stored-use : (h : Heads) (k : ℕ) → stored (h .tips) (h .connected) k ≡ true → inUse h k ≡ true
 unfolding stored
 stored-use h k e = and-true (inUse h k) (not (isConnected (h .connected) k)) e .0
 

@@ -31,3 +31,5 @@ pub mod Walked
 pub mod Border
 pub mod Went
 pub mod Steps
+pub mod PromoteStep
+pub mod AdmitStep

@@ -1,4 +1,4 @@
--- Removal, timer, restart and promotion as calls of a list.
+-- Removal, timer and restart as calls of a list.
 use mathlib.Core.Path.{_≡_, refl, sym, ap, _∙_}
 use mathlib.Core.Logic.{_≢_, _⊎_, inl, inr}
 use mathlib.Core.Bool.{Bool, true, false, not, _&&_, _||_}
@@ -15,7 +15,6 @@ use Rattle.rules.specs.Hashes.{hashAt}
 use Rattle.rules.specs.Records.{NONE, Blocks, Heads, Tables, tipAt, tailAt, requestedAt, sequenceAt, used, occupied, stored, slotsOf}
 use Rattle.rules.specs.BlockTable.{markSubtree}
 use Rattle.rules.specs.Caches.{recomputeHeads}
-use Rattle.rules.specs.Promotion.{activate, promoted}
 use Rattle.rules.specs.Removal.{removed}
 use Rattle.rules.specs.Rebuild.{restarted}
 use Rattle.rules.specs.Timer.{Ask, spanOr, due, mayAsk, asksBefore, chosen, claimed, askAt, recovery, markRequested}
@@ -30,8 +29,6 @@ use Rattle.rules.proofs.Kept.Table.{seqOf, parentOf, holds, onChain, Sh
 use Rattle.rules.proofs.Kept.Steady.{steady-refl}
 use Rattle.rules.proofs.Kept.Seats.{room, tipOf, inUse, kept, keptBy}
 use Rattle.rules.proofs.Kept.Frame.{Frame, Good, All}
-use Rattle.rules.proofs.Kept.Recomputed.{recomputed}
-use Rattle.rules.proofs.Kept.Promote.{setFlags, flags-but, lit, activate-is, lit-here, lit-other, promote-frame}
 use Rattle.rules.proofs.Kept.Refresh.{stored-use}
 use Rattle.rules.proofs.Kept.Remove.{remove-done}
 use Rattle.rules.proofs.Kept.Rebuild.{restart-done}

@@ -33,3 +33,4 @@ pub mod Went
 pub mod Steps
 pub mod PromoteStep
 pub mod AdmitStep
+pub mod Lists

@@ -5,3 +5,4 @@ pub mod Hashes
 pub mod Walks
 pub mod Marked
 pub mod Kept
+pub mod Demand3

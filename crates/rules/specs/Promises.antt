@@ -52,13 +52,13 @@ Connected s k = getD (s .tables .heads .connected) k 0 % 2 ≡ 1
 
 unfoldable pub headAt : Heads → ℕ → Head
 headAt h k = record {
-    tip = record { 0 = getD (h .tips) k NONE };
-    tail = record { 0 = getD (h .tails) k NONE };
-    missing = hashAt (h .missing) k;
-    requested = getD (h .requested) k 0;
-    arrival = getD (h .arrivals) k 0;
-    connected = getD (h .connected) k 0
-  }
+  tip = record { 0 = getD (h .tips) k NONE };
+  tail = record { 0 = getD (h .tails) k NONE };
+  missing = hashAt (h .missing) k;
+  requested = getD (h .requested) k 0;
+  arrival = getD (h .arrivals) k 0;
+  connected = getD (h .connected) k 0;
+}
 
 -- ---- children, heads, parent walks
 

@@ -45,7 +45,7 @@ move-seat t h k x arrival =
       roomy = λ r. b .roomy (a .roomy r);
       rooms = a .rooms;
       here = a .here;
-      rest = λ r ne. b .rest r ne ∙ a .rest r ne
+      rest = λ r ne. b .rest r ne ∙ a .rest r ne;
     }
 
 module _ (t : Blocks) (h : Heads) (top x q : ℕ) (hash : List ℕ) (parent : Option ℕ) (previous : List ℕ) (arrival : ℕ) (g : Good t h top All) where
@@ -72,7 +72,7 @@ module _ (t : Blocks) (h : Heads) (top x q : ℕ) (hash : List ℕ) (parent : Op
           home = insert-holds t x q hash p k f;
           fresh = insert-chain t x q hash p k f;
           bottom = insert-kids t x q hash p k f;
-          bare = bare
+          bare = bare;
         }))
 
     module _ (op : holds t p ≡ true) where
@@ -88,14 +88,14 @@ module _ (t : Blocks) (h : Heads) (top x q : ℕ) (hash : List ℕ) (parent : Op
           let c : ℕ = raise (countOf u p) in
           let v : Blocks = setCount u p c in
           rw (raised u p ou) (placed v (insertHead (record { blocks = v; heads = h }) x arrival x previous top)
-            (but-steady NONE u v p (count-but u p c) refl refl refl refl (λ _. refl))
-            (insert-done v h top x arrival x previous false (λ i. i ≢ x) All (λ _ _ ne. ne) (record {
-              good = fork-good t h top x q hash p g f op n low;
-              home = insert-holds t x q hash p k f;
-              fresh = insert-chain t x q hash p k f;
-              bottom = rw count-kids (insert-kids t x q hash p k f);
-              bare = bare
-            })))
+          (but-steady NONE u v p (count-but u p c) refl refl refl refl (λ _. refl))
+          (insert-done v h top x arrival x previous false (λ i. i ≢ x) All (λ _ _ ne. ne) (record {
+            good = fork-good t h top x q hash p g f op n low;
+            home = insert-holds t x q hash p k f;
+            fresh = insert-chain t x q hash p k f;
+            bottom = rw count-kids (insert-kids t x q hash p k f);
+            bare = bare;
+          })))
 
       place-up : (s : ℕ) → slotOfHead (h .tips) p ≡ some s → Placed u top x (moveUp (record { blocks = u; heads = h }) s x previous arrival)
       unfolding moveUp
@@ -105,10 +105,10 @@ module _ (t : Blocks) (h : Heads) (top x q : ℕ) (hash : List ℕ) (parent : Op
           let h1 = withArrivals (withTips h (set (h .tips) s x)) (set (h .arrivals) s arrival) in
           record {
             good = extend-good t h top x q hash p g f s (w .0) (w .1) (recomputeHead u h1 s x previous) (again-seat u h h1 s x x previous m)
-              (again-kept u h h1 s x x previous m (g .frame .roomy) (use-lt h s (w .0)));
+                (again-kept u h h1 s x x previous m (g .frame .roomy) (use-lt h s (w .0)));
             home = insert-holds t x q hash p k f;
             fresh = insert-chain t x q hash p k f;
-            steady = steady-refl NONE u
+            steady = steady-refl NONE u;
           }
 
 place-done : (t : Blocks) (h : Heads) (top x q : ℕ) (hash : List ℕ) (parent : Option ℕ) (previous : List ℕ) (arrival : ℕ) → Good t h top All → Fits t x q hash (slotOrNone parent)
@@ -137,7 +137,7 @@ resolve-is w x previous o = rw o
 -- from where the new block has its head
 resolve-good : (u : Blocks) (top x : ℕ) (w : Tables) (previous : List ℕ) → Placed u top x w
     → Good (refreshTails (resolveTails w x previous) .blocks) (refreshTails (resolveTails w x previous) .heads) top All
-      × Steady NONE u (refreshTails (resolveTails w x previous) .blocks) × (holds (refreshTails (resolveTails w x previous) .blocks) x ≡ true)
+    × Steady NONE u (refreshTails (resolveTails w x previous) .blocks) × (holds (refreshTails (resolveTails w x previous) .blocks) x ≡ true)
 unfolding refreshTails recomputeMissing linkTails
 resolve-good u top x w previous d =
     let q = seqOf (w .blocks) x in
@@ -150,7 +150,7 @@ resolve-good u top x w previous d =
       home = d .home;
       fresh = d .fresh;
       known = refl;
-      steady = d .steady
+      steady = d .steady;
     }) in
     rw (resolve-is w x previous (d .home)) (refreshed v top x All hash previous (j .frame) (j .loose), j .steady, j .home)
 
@@ -171,5 +171,5 @@ admit-done t h top x q hash parent previous arrival g f there =
       good = r .0;
       steady = steady-trans x t u (v .blocks) (insert-steady t x q hash p k f) (steady-any x u (v .blocks) shape (r .1));
       sequence = same .1 ∙ insert-seq t x q hash p k f;
-      hashed = same .2 ∙ insert-hash t x q hash p k f
+      hashed = same .2 ∙ insert-hash t x q hash p k f;
     })

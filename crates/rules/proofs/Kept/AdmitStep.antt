@@ -48,10 +48,10 @@ unfolding findParent find
 parent-is t q previous i e = same? q 0
     (λ z. some-not-none {o = none} {i = i} (rw (eq-eqb q 0 z) at e) refl)
     (λ nz.
-      let b = lowest-holds (isBlock (t .hashes) (t .sequences) (q - 1) previous) (slotsOf (t .sequences)) i (rw (ne-eqb q 0 nz) at e) in
-      let c = block-is t (q - 1) previous i (b .1) in
-      let r = c .1 in
-      (c .0, omega arith))
+    let b = lowest-holds (isBlock (t .hashes) (t .sequences) (q - 1) previous) (slotsOf (t .sequences)) i (rw (ne-eqb q 0 nz) at e) in
+    let c = block-is t (q - 1) previous i (b .1) in
+    let r = c .1 in
+    (c .0, omega arith))
 
 parent-fits : (t : Blocks) (q : ℕ) (previous : List ℕ) → let p = slotOrNone (findParent (t .hashes) (t .sequences) previous q) in (p ≡ NONE) ⊎ ((holds t p ≡ true) × (suc (seqOf t p) ≡ q))
 parent-fits t q previous = option? (findParent (t .hashes) (t .sequences) previous q)
@@ -80,7 +80,7 @@ module _ (s : State) (q : ℕ) (hash previous : List ℕ) (arrival x : ℕ) (z :
         free = not-true (holds t x) (b .1);
         seqOk = real;
         len = len;
-        parentOk = parent-fits t q previous
+        parentOk = parent-fits t q previous;
       }
 
   abbrev w : Tables
@@ -112,20 +112,20 @@ module _ (s : State) (q : ℕ) (hash previous : List ℕ) (arrival x : ℕ) (z :
       let n : name s j ≡ given-name = sym (p .1) ∙ e in
       let oj = ne-holds t j (p .0) in
       true-not-false {b = isBlock (t .hashes) (t .sequences) q hash j}
-        (is-block t q hash j oj (ap (λ (y : Name). y .sequence) n) (ap (λ (y : Name). y .hash) n))
-        (lowest-misses (isBlock (t .hashes) (t .sequences) q hash) (slotsOf (t .sequences)) j unknown (rw (kids-slots t sh) (holds-lt t j oj)))
+      (is-block t q hash j oj (ap (λ (y : Name). y .sequence) n) (ap (λ (y : Name). y .hash) n))
+      (lowest-misses (isBlock (t .hashes) (t .sequences) q hash) (slotsOf (t .sequences)) j unknown (rw (kids-slots t sh) (holds-lt t j oj)))
 
   names : (i j : ℕ) → Occupied u i → Occupied u j → name u i ≡ name u j → i ≡ j
   names i j oi oj e = same? i x
       (λ a. same? j x
-        (λ b. a ∙ sym b)
-        (λ b. absurd (foreign j b oj (sym e ∙ (rw a own)))))
+      (λ b. a ∙ sym b)
+      (λ b. absurd (foreign j b oj (sym e ∙ (rw a own)))))
       (λ a. same? j x
-        (λ b. absurd (foreign i a oi (e ∙ (rw b own))))
-        (λ b.
-          let p = other i a oi in
-          let r = other j b oj in
-          z .names i j (p .0) (r .0) (sym (p .1) ∙ e ∙ r .1)))
+      (λ b. absurd (foreign i a oi (e ∙ (rw b own))))
+      (λ b.
+      let p = other i a oi in
+      let r = other j b oj in
+      z .names i j (p .0) (r .0) (sym (p .1) ∙ e ∙ r .1)))
 
   pub admitted-went : Went (admitCall q hash previous arrival) s (answering u (slot x))
   unfolding given-name
@@ -139,8 +139,8 @@ module _ (s : State) (q : ℕ) (hash previous : List ℕ) (arrival x : ℕ) (z :
         new = λ i e _. let c : _≡_ {A = ℕ} 0 1 = cc in absurd (omega arith);
         only = λ i a. inl (active-was s z w x free y v i a);
         given = λ i was o h. same? x i
-          (λ e. rw (eq-eqb x i e) (ap some (sym own) ∙ (rw e refl)))
-          (λ ne. let p = other i (λ e. ne (sym e)) o in rw (ne-eqb x i ne) (h (p .0) ∙ ap some (sym (p .1))))
+            (λ e. rw (eq-eqb x i e) (ap some (sym own) ∙ (rw e refl)))
+            (λ ne. let p = other i (λ e. ne (sym e)) o in rw (ne-eqb x i ne) (h (p .0) ∙ ap some (sym (p .1))));
       }
 
 -- ---- the refusals
@@ -156,14 +156,14 @@ module _ (s : State) (q : ℕ) (hash previous : List ℕ) (arrival : ℕ) (z : S
   unfolding admit
   went-admit = rw (z .shape) (split (eqb (length hash) hashLength && eqb (length previous) hashLength)
       (λ e2. split (eqb q NONE)
-        (λ e4. rw (e2, e4) (turned-away c s 4 z))
-        (λ e4. split (sameHash hash zeroHash)
-          (λ e5. rw (e2, e4, e5) (turned-away c s 5 z))
-          (λ e5. option? known
-            (λ e6. option? (nextFree (s .tables .blocks .sequences))
-              (λ e7. rw (e2, e4, e5, e6, e7) (turned-away c s 7 z))
-              (λ x e7. rw (e2, e4, e5, e6, e7)
-                (admitted-went s q hash previous arrival x z (eqb-true (length hash) hashLength (and-true (eqb (length hash) hashLength) (eqb (length previous) hashLength) e2 .0))
-                  (eqb-false q NONE e4) e6 e7)))
-            (λ i e6. rw (e2, e4, e5, e6) (turned-away c s 6 z)))))
+      (λ e4. rw (e2, e4) (turned-away c s 4 z))
+      (λ e4. split (sameHash hash zeroHash)
+      (λ e5. rw (e2, e4, e5) (turned-away c s 5 z))
+      (λ e5. option? known
+      (λ e6. option? (nextFree (s .tables .blocks .sequences))
+      (λ e7. rw (e2, e4, e5, e6, e7) (turned-away c s 7 z))
+      (λ x e7. rw (e2, e4, e5, e6, e7)
+      (admitted-went s q hash previous arrival x z (eqb-true (length hash) hashLength (and-true (eqb (length hash) hashLength) (eqb (length previous) hashLength) e2 .0))
+      (eqb-false q NONE e4) e6 e7)))
+      (λ i e6. rw (e2, e4, e5, e6) (turned-away c s 6 z)))))
       (λ e2. rw e2 (turned-away c s 2 z)))

@@ -58,15 +58,15 @@ module _ (t : Blocks) (h : Heads) (top x q : ℕ) (hash : List ℕ) (p : ℕ) (g
   count-other j np o a = same? j x
       (λ e. rw e (omega (arith, insert-count t x q hash p k f, insert-kids t x q hash p k f)))
       (λ ne. rw (but-count t u x but j ne, insert-kids-other t x q hash p k f j (λ e. np (sym e)))
-        (k .counted j (sym (occ j ne) ∙ o) (sym (act j ne) ∙ a)))
+      (k .counted j (sym (occ j ne) ∙ o) (sym (act j ne) ∙ a)))
 
   chained : Chained u top
   chained i o a ne = same? i x
       (λ e. true-not-false {b = onChain u i} a (rw e (insert-chain t x q hash p k f)))
       (λ nx.
-        let (c, oc, ac, pc) = g .frame .chained i (sym (occ i nx) ∙ o) (sym (act i nx) ∙ a) ne in
-        let nc : c ≢ x = old c oc in
-        (c, occ c nc ∙ oc, act c nc ∙ ac, but-parent t u x but c nc ∙ pc))
+      let (c, oc, ac, pc) = g .frame .chained i (sym (occ i nx) ∙ o) (sym (act i nx) ∙ a) ne in
+      let nc : c ≢ x = old c oc in
+      (c, occ c nc ∙ oc, act c nc ∙ ac, but-parent t u x but c nc ∙ pc))
 
   ends : (j : ℕ) (a : Anchor) → holds t j ≡ true → Ends t j a → Ends u j a
   ends j a o e = ends-move t u (λ k. k ≢ x)
@@ -77,7 +77,7 @@ module _ (t : Blocks) (h : Heads) (top x q : ℕ) (hash : List ℕ) (p : ℕ) (g
   -- what was childless, and is not the parent, is childless
   still : (s : ℕ) → inUse h s ≡ true → tipOf h s ≢ p → (holds u (tipOf h s) ≡ true) × (childrenOf u (tipOf h s) ≡ 0)
   still s us np = let w = g .frame .tips s us in
-    (occ (tipOf h s) (old (tipOf h s) (w .0)) ∙ w .0, insert-kids-other t x q hash p k f (tipOf h s) (λ e. np (sym e)) ∙ w .1)
+      (occ (tipOf h s) (old (tipOf h s) (w .0)) ∙ w .0, insert-kids-other t x q hash p k f (tipOf h s) (λ e. np (sym e)) ∙ w .1)
 
   was : (j : ℕ) → childrenOf u j ≡ 0 → (j ≢ p) × (childrenOf t j ≡ 0)
   was j z =
@@ -96,7 +96,7 @@ module _ (t : Blocks) (h : Heads) (top x q : ℕ) (hash : List ℕ) (p : ℕ) (g
           counts = record {
             shape = but .shapes (k .shape);
             linked = insert-linked t x q hash p k f;
-            counted = λ j o a. count-other j (λ c. same? j x (λ d. parent-not-self t x q hash p k f (sym c ∙ d)) (λ ne. real j (sym (occ j ne) ∙ o) c)) o a
+            counted = λ j o a. count-other j (λ c. same? j x (λ d. parent-not-self t x q hash p k f (sym c ∙ d)) (λ ne. real j (sym (occ j ne) ∙ o) c)) o a;
           };
           voids = insert-voids t x q hash p k f (g .frame .voids);
           roomy = g .frame .roomy;
@@ -104,9 +104,9 @@ module _ (t : Blocks) (h : Heads) (top x q : ℕ) (hash : List ℕ) (p : ℕ) (g
           tips = λ s us. still s us (real (tipOf h s) (g .frame .tips s us .0));
           apart = g .frame .apart;
           covered = headed;
-          chained = chained
+          chained = chained;
         };
-        anchored = λ s us. ends (tipOf h s) (kept h s) (g .frame .tips s us .0) (g .anchored s us)
+        anchored = λ s us. ends (tipOf h s) (kept h s) (g .frame .tips s us .0) (g .anchored s us);
       }
 
   -- the parent is a head, which moves up
@@ -125,35 +125,35 @@ module _ (t : Blocks) (h : Heads) (top x q : ℕ) (hash : List ℕ) (p : ℕ) (g
             shape = but .shapes (k .shape);
             linked = insert-linked t x q hash p k f;
             counted = λ j o a. same? j p
-              (λ c. rw (c, but-count t u x but p np) (omega (arith, k .counted p op (sym (act p np) ∙ (rw c at a)), insert-kids-parent t x q hash p k f)))
-              (λ nj. count-other j nj o a)
+                (λ c. rw (c, but-count t u x but p np) (omega (arith, k .counted p op (sym (act p np) ∙ (rw c at a)), insert-kids-parent t x q hash p k f)))
+                (λ nj. count-other j nj o a);
           };
           voids = insert-voids t x q hash p k f (g .frame .voids);
           roomy = seat .roomy (g .frame .roomy);
           blanks = seat-blanks h v s x seat (seat-taken h v s x seat l real) (g .frame .blanks);
           tips = λ r ur. same? r s
-            (λ c. rw (c, seat .here l) (ox, insert-kids t x q hash p k f))
-            (λ ne. let u′ : inUse h r ≡ true = sym (seat-use h v s x seat r ne) ∙ ur in rw (seat-tip h v s x seat r ne) (still r u′ (tipne r u′ ne)));
+              (λ c. rw (c, seat .here l) (ox, insert-kids t x q hash p k f))
+              (λ ne. let u′ : inUse h r ≡ true = sym (seat-use h v s x seat r ne) ∙ ur in rw (seat-tip h v s x seat r ne) (still r u′ (tipne r u′ ne)));
           apart = seat-apart h v s x seat (g .frame .apart) (λ r _ ur. old (tipOf h r) (g .frame .tips r ur .0)) l;
           covered = λ i _ o a z. same? i x
-            (λ c. (s, seat-taken h v s x seat l real, rw (seat .here l) (sym c)))
-            (λ ne.
+              (λ c. (s, seat-taken h v s x seat l real, rw (seat .here l) (sym c)))
+              (λ ne.
               let (r, ur, c) = headed i ne o a z in
               let nr : r ≢ s = λ d. was i z .0 (sym c ∙ ap (tipOf h) d ∙ e) in
               (r, rw (seat-use h v s x seat r nr) ur, rw (seat-tip h v s x seat r nr) c));
-          chained = chained
+          chained = chained;
         }
 
     pub extend-good : kept v s ≡ located u x → Good u v top All
     extend-good c = let g1 = extend-frame in
-      record {
-        frame = g1;
-        anchored = λ r ur. same? r s
-          (λ d. rw (d, seat .here (use-lt h s us), c) (anchor-ends u x (g1 .counts .shape) (g1 .counts .linked) (insert-holds t x q hash p k f)))
-          (λ ne.
-            let u′ : inUse h r ≡ true = sym (seat-use h v s x seat r ne) ∙ ur in
-            rw (seat-tip h v s x seat r ne, seat-kept h v s x seat r ne) (ends (tipOf h r) (kept h r) (g .frame .tips r u′ .0) (g .anchored r u′)))
-      }
+        record {
+          frame = g1;
+          anchored = λ r ur. same? r s
+              (λ d. rw (d, seat .here (use-lt h s us), c) (anchor-ends u x (g1 .counts .shape) (g1 .counts .linked) (insert-holds t x q hash p k f)))
+              (λ ne.
+              let u′ : inUse h r ≡ true = sym (seat-use h v s x seat r ne) ∙ ur in
+              rw (seat-tip h v s x seat r ne, seat-kept h v s x seat r ne) (ends (tipOf h r) (kept h r) (g .frame .tips r u′ .0) (g .anchored r u′)));
+        }
 
   -- the parent is no head: it counts one more
   pub fork-good : holds t p ≡ true → slotOfHead (h .tips) p ≡ none → (onChain t p ≡ false → countOf t p < 255)
@@ -171,13 +171,13 @@ module _ (t : Blocks) (h : Heads) (top x q : ℕ) (hash : List ℕ) (p : ℕ) (g
             shape = count-but u p c .shapes su;
             linked = insert-linked t x q hash p k f;
             counted = λ j o a. rw count-kids (same? j p
-              (λ e.
+                (λ e.
                 let ap′ : onChain t p ≡ false = sym (act p np) ∙ (rw e at a) in
                 let m = k .counted p op ap′ in
                 let b = busy ap′ in
                 let lo = low ap′ in
                 rw (e, count-here u p c su ou, but-count t u x but p np, raise-suc (countOf t p) lo) (omega (arith, insert-kids-parent t x q hash p k f)))
-              (λ ne. rw (but-count u (setCount u p c) p (count-but u p c) j ne) (count-other j ne o a)))
+                (λ ne. rw (but-count u (setCount u p c) p (count-but u p c) j ne) (count-other j ne o a)));
           };
           voids = but-voids u (setCount u p c) p (count-but u p c) ou (insert-voids t x q hash p k f (g .frame .voids));
           roomy = g .frame .roomy;
@@ -185,7 +185,7 @@ module _ (t : Blocks) (h : Heads) (top x q : ℕ) (hash : List ℕ) (p : ℕ) (g
           tips = λ s us. let w = still s us (tipne s us) in (w .0, rw count-kids (w .1));
           apart = g .frame .apart;
           covered = λ i ne o a z. headed i ne o a (rw count-kids at z);
-          chained = chained
+          chained = chained;
         };
-        anchored = λ s us. ends-same u (setCount u p c) (λ _. (refl, refl, refl)) (tipOf h s) (kept h s) (ends (tipOf h s) (kept h s) (g .frame .tips s us .0) (g .anchored s us))
+        anchored = λ s us. ends-same u (setCount u p c) (λ _. (refl, refl, refl)) (tipOf h s) (kept h s) (ends (tipOf h s) (kept h s) (g .frame .tips s us .0) (g .anchored s us));
       }

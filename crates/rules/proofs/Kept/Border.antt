@@ -14,8 +14,32 @@ use Rattle.rules.specs.Records.{NONE, Blocks, Heads, Tables, bit0}
 use Rattle.rules.specs.Anchor.{Anchor, connection, tail}
 use Rattle.rules.specs.Calls.{State, blocksFit, headsFit, shaped, blocksIn, headsIn}
 use Rattle.rules.specs.Promises.{
-  sequence, parent, Occupied, Active, Not, tip, InUse, anchor, Connected, headAt, IsHead, Walk, Among, first, further,
-  MeetsActive, FirstActive, here, after, Last, Anchored, OnLine, start, down, name, Sound
+  sequence,
+  parent,
+  Occupied,
+  Active,
+  Not,
+  tip,
+  InUse,
+  anchor,
+  Connected,
+  headAt,
+  IsHead,
+  Walk,
+  Among,
+  first,
+  further,
+  MeetsActive,
+  FirstActive,
+  here,
+  after,
+  Last,
+  Anchored,
+  OnLine,
+  start,
+  down,
+  name,
+  Sound,
 }
 use Rattle.rules.proofs.Splits.{split, same?, and-true, true-not-false}
 use Rattle.rules.proofs.Kept.Table.{size, seqOf, parentOf, holds, onChain, Shape, Linked, Kept, holds-ne, ne-holds, empty-eq}
@@ -40,11 +64,21 @@ module _ (t : Tables) where
       let b = t .blocks in
       let h = t .heads in
       let e = s .parents in
-      rw (le-leb 1 n (omega (arith, s .some)), le-leb n 1024 (omega (arith, s .small)), le-leb 2 m (r .two), le-leb m 64 (r .few),
-        eq-eqb (length (b .hashes)) (n * hashLength) (omega (arith, s .hashed)), eq-eqb (length (b .sequences)) n (sym e),
-        eq-eqb (length (b .counts)) n (omega (arith, s .counts)), eq-eqb (length (b .flags)) n (omega (arith, s .flagged)),
-        eq-eqb (length (h .tails)) m (r .tailed), eq-eqb (length (h .missing)) (m * hashLength) (r .missed), eq-eqb (length (h .requested)) m (r .asked),
-        eq-eqb (length (h .arrivals)) m (r .arrived), eq-eqb (length (h .connected)) m (r .flagged)) refl
+      rw (
+        le-leb 1 n (omega (arith, s .some)),
+        le-leb n 1024 (omega (arith, s .small)),
+        le-leb 2 m (r .two),
+        le-leb m 64 (r .few),
+        eq-eqb (length (b .hashes)) (n * hashLength) (omega (arith, s .hashed)),
+        eq-eqb (length (b .sequences)) n (sym e),
+        eq-eqb (length (b .counts)) n (omega (arith, s .counts)),
+        eq-eqb (length (b .flags)) n (omega (arith, s .flagged)),
+        eq-eqb (length (h .tails)) m (r .tailed),
+        eq-eqb (length (h .missing)) (m * hashLength) (r .missed),
+        eq-eqb (length (h .requested)) m (r .asked),
+        eq-eqb (length (h .arrivals)) m (r .arrived),
+        eq-eqb (length (h .connected)) m (r .flagged),
+      ) refl
 
   pub shaped-shape : shaped t ≡ true → Shape (t .blocks) × Room (t .heads)
   unfolding shaped blocksFit headsFit
@@ -69,11 +103,25 @@ module _ (t : Tables) where
       let q = eqb-true (length (b .sequences)) n (b3 .1) in
       let one = leb-true 1 n (a5 .0) in
       let many = leb-true n 1024 (a5 .1) in
-      let w = eqb-true (length (b .hashes)) (n * hashLength) (b3 .0) in
-      (record { some = omega arith; small = omega arith; parents = sym q; counts = eqb-true (length (b .counts)) n (b2 .1) ∙ sym q;
-        flagged = eqb-true (length (b .flags)) n (b1 .1) ∙ sym q; hashed = omega arith },
-      record { two = leb-true 2 m (a4 .1); few = leb-true m 64 (a3 .1); tailed = eqb-true (length (h .tails)) m (c4 .0); missed = eqb-true (length (h .missing)) (m * hashLength) (c4 .1);
-        asked = eqb-true (length (h .requested)) m (c3 .1); arrived = eqb-true (length (h .arrivals)) m (c2 .1); flagged = eqb-true (length (h .connected)) m (c1 .1) })
+      let w = eqb-true (length (b .hashes)) (n * hashLength) (b3 .0) in (
+        record {
+          some = omega arith;
+          small = omega arith;
+          parents = sym q;
+          counts = eqb-true (length (b .counts)) n (b2 .1) ∙ sym q;
+          flagged = eqb-true (length (b .flags)) n (b1 .1) ∙ sym q;
+          hashed = omega arith;
+        },
+        record {
+          two = leb-true 2 m (a4 .1);
+          few = leb-true m 64 (a3 .1);
+          tailed = eqb-true (length (h .tails)) m (c4 .0);
+          missed = eqb-true (length (h .missing)) (m * hashLength) (c4 .1);
+          asked = eqb-true (length (h .requested)) m (c3 .1);
+          arrived = eqb-true (length (h .arrivals)) m (c2 .1);
+          flagged = eqb-true (length (h .connected)) m (c1 .1);
+        },
+      )
 
 -- ---- anchors
 
@@ -100,29 +148,33 @@ module _ (s : State) (k : ℕ) (sh : Shape (blocksOf s)) (l : Linked (blocksOf s
       let (visits, w, n) = walk-there s sh l (suc (depth t (tip s k))) (tip s k) o (omega arith) in
       let few : length visits ≤ blocksIn (s .tables) = omega (arith, depth-lt t (tip s k) o, sh .parents) in
       split flag
-        (λ b.
-          let m : FirstActive s (anchor s k) visits = walk-met s sh l (tip s k) visits (connection (anchor s k)) w (rw (kept-on b) at e) in
-          record {
-            visits = visits; walk = w; few = few;
-            connected = (λ _. first-meets s (anchor s k) visits m, λ _. eqb-true (getD (s .tables .heads .connected) k 0 % 2) 1 b);
-            atFirst = λ _. m;
-            orLast = λ no. absurd (no (first-meets s (anchor s k) visits m))
-          })
-        (λ b.
-          let m : Met s sh l visits (tail (anchor s k)) = walk-met s sh l (tip s k) visits (tail (anchor s k)) w (rw (kept-off b) at e) in
-          record {
-            visits = visits; walk = w; few = few;
-            connected = (λ c. absurd (eqb-false (getD (s .tables .heads .connected) k 0 % 2) 1 b c), λ c. absurd (m .1 (c .0) (c .1) (c .2)));
-            atFirst = λ c. absurd (m .1 (c .0) (c .1) (c .2));
-            orLast = λ _. m .0
-          })
+      (λ b.
+      let m : FirstActive s (anchor s k) visits = walk-met s sh l (tip s k) visits (connection (anchor s k)) w (rw (kept-on b) at e) in
+      record {
+        visits = visits;
+        walk = w;
+        few = few;
+        connected = (λ _. first-meets s (anchor s k) visits m, λ _. eqb-true (getD (s .tables .heads .connected) k 0 % 2) 1 b);
+        atFirst = λ _. m;
+        orLast = λ no. absurd (no (first-meets s (anchor s k) visits m));
+      })
+      (λ b.
+      let m : Met s sh l visits (tail (anchor s k)) = walk-met s sh l (tip s k) visits (tail (anchor s k)) w (rw (kept-off b) at e) in
+      record {
+        visits = visits;
+        walk = w;
+        few = few;
+        connected = (λ c. absurd (eqb-false (getD (s .tables .heads .connected) k 0 % 2) 1 b c), λ c. absurd (m .1 (c .0) (c .1) (c .2)));
+        atFirst = λ c. absurd (m .1 (c .0) (c .1) (c .2));
+        orLast = λ _. m .0;
+      })
 
   pub anchored-ends : Anchored s k → Ends (blocksOf s) (tip s k) (kept (headsOf s) k)
   anchored-ends a = split flag
       (λ b. rw (kept-on b) (walk-first s sh l (anchor s k) (tip s k) (a .visits) (a .walk) (a .atFirst (a .connected .0 (eqb-true (getD (s .tables .heads .connected) k 0 % 2) 1 b)))))
       (λ b.
-        let no : Not (MeetsActive s (a .visits)) = λ c. eqb-false (getD (s .tables .heads .connected) k 0 % 2) 1 b (a .connected .1 c) in
-        rw (kept-off b) (walk-last s sh l (anchor s k) (tip s k) (a .visits) (a .walk) (λ j m x. no (j, m, x)) (a .orLast no)))
+      let no : Not (MeetsActive s (a .visits)) = λ c. eqb-false (getD (s .tables .heads .connected) k 0 % 2) 1 b (a .connected .1 c) in
+      rw (kept-off b) (walk-last s sh l (anchor s k) (tip s k) (a .visits) (a .walk) (λ j m x. no (j, m, x)) (a .orLast no)))
 
 -- ---- the whole
 
@@ -145,9 +197,9 @@ sound-good s z =
         tips = λ k u. let p = z .tips k (use-ne h k u) in (ne-holds t (tipOf h k) (p .0), p .1);
         apart = λ j k uj uk q. z .different j k (use-ne h j uj) (use-ne h k uk) q;
         covered = λ i _ o a c. let (k, u, q) = z .heads i (holds-ne t i o) (off-idle s i a) .1 c in (k, ne-use h k u, q);
-        chained = λ i o a ne. chain i ne (z .line i (on-active s i a) .1)
+        chained = λ i o a ne. chain i ne (z .line i (on-active s i a) .1);
       };
-      anchored = λ k u. anchored-ends s k sh l (z .anchored k (use-ne h k u))
+      anchored = λ k u. anchored-ends s k sh l (z .anchored k (use-ne h k u));
     }
   where
     chain : (i : ℕ) → i ≢ s .activeHead → OnLine s i → (c : ℕ) × (holds (blocksOf s) c ≡ true) × (onChain (blocksOf s) c ≡ true) × (parentOf (blocksOf s) c ≡ i)
@@ -167,9 +219,10 @@ good-sound s g line top names =
     record {
       shape = shaped-is (s .tables) sh (f .roomy);
       counts = λ i o a. f .counts .counted i (ne-holds t i o) (idle-off s i a);
-      heads = λ i o a.
-        (λ k. rw (k .2) at (f .tips (k .0) (ne-use h (k .0) (k .1)) .1),
-        λ c. let (k, u, q) = f .covered i tt (ne-holds t i o) (idle-off s i a) c in (k, use-ne h k u, q));
+      heads = λ i o a. (
+        λ k. rw (k .2) at (f .tips (k .0) (ne-use h (k .0) (k .1)) .1),
+        λ c. let (k, u, q) = f .covered i tt (ne-holds t i o) (idle-off s i a) c in (k, use-ne h k u, q),
+      );
       tips = λ k u. let p = f .tips k (ne-use h k u) in (holds-ne t (tipOf h k) (p .0), p .1);
       different = λ j k uj uk q. f .apart j k (ne-use h j uj) (ne-use h k uk) q;
       anchored = λ k u. ends-anchored s k sh (f .counts .linked) (f .tips k (ne-use h k u) .0) (g .anchored k (ne-use h k u));
@@ -179,5 +232,5 @@ good-sound s g line top names =
       names = names;
       emptySlots = λ i no. f .voids i (split (holds t i) (λ o. absurd (no (holds-ne t i o))) (λ e. e));
       emptyHeads = λ k no. f .blanks k (split (inUse h k) (λ u. absurd (no (use-ne h k u))) (λ e. e));
-      victims = λ full. victim-there t h (s .activeHead) (f .roomy) (f .apart) (λ k u. f .tips k u .0) (λ k l. ne-use h k (full k l))
+      victims = λ full. victim-there t h (s .activeHead) (f .roomy) (f .apart) (λ k u. f .tips k u .0) (λ k l. ne-use h k (full k l));
     }

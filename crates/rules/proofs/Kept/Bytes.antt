@@ -37,8 +37,8 @@ module _ (bytes hash : List ℕ) (i : ℕ) (len : length hash ≡ hashLength) wh
   put-hash-other j ne = sym (hash-is (putHash bytes i hash) (hashAt bytes j) j (hash-length bytes j) (λ k l.
       bytes-at bytes (j * hashLength) hashLength k l
       ∙ sym (less? j i
-        (λ lt. sets-before hash bytes (i * hashLength) (j * hashLength + k) (omega arith))
-        (λ le. sets-behind hash bytes (i * hashLength) (j * hashLength + k) (omega arith)))))
+      (λ lt. sets-before hash bytes (i * hashLength) (j * hashLength + k) (omega arith))
+      (λ le. sets-behind hash bytes (i * hashLength) (j * hashLength + k) (omega arith)))))
 
   pub put-hash-here : i * hashLength + hashLength ≤ length bytes → hashAt (putHash bytes i hash) i ≡ hash
   unfolding putHash

@@ -26,8 +26,9 @@ module _ (test : ℕ → Bool) (before : ℕ → ℕ → Bool) where
   best-passes zero b e = some-not-none {o = none} {i = b} e refl
   best-passes (suc n) b e = split (test n)
       (λ t. elim (better-some before n b (best test before n) (rw t at e)) [
-        inl q ↦ (omega arith, rw q t)
-      | inr q ↦ let r = best-passes n b q in (omega arith, r .1) ])
+        | inl q ↦ (omega arith, rw q t)
+        | inr q ↦ let r = best-passes n b q in (omega arith, r .1)
+      ])
       (λ f. let r = best-passes n b (rw f at e) in (omega arith, r .1))
 
   pub best-none : (n i : ℕ) → best test before n ≡ none → i < n → test i ≡ false

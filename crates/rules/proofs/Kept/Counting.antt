@@ -54,7 +54,7 @@ unfolding countBelow
 count-drop p q zero i l hp hq h = absurd (omega arith)
 count-drop p q (suc n) i l hp hq h = same? n i
     (λ e. let hp′ : p n ≡ true = rw e hp in let hq′ : q n ≡ false = rw e hq in
-      rw (hp′, hq′, count-ext p q n (λ j k. h j (omega arith) (omega arith))) (omega arith))
+    rw (hp′, hq′, count-ext p q n (λ j k. h j (omega arith) (omega arith))) (omega arith))
     (λ ne. rw (h n (omega arith) ne) (omega (arith, count-drop p q n i (omega arith) hp hq (λ j k. h j (omega arith)))))
 
 pub count-pos : (p : ℕ → Bool) (n i : ℕ) → i < n → p i ≡ true → 0 < countBelow p n
@@ -83,7 +83,7 @@ unfolding countBelow
 count-less p q zero i l hp hq h = absurd (omega arith)
 count-less p q (suc n) i l hp hq h = same? n i
     (λ e. let hp′ : p n ≡ false = rw e hp in let hq′ : q n ≡ true = rw e hq in
-      rw (hp′, hq′) (omega (arith, count-mono p q n (λ j k. h j (omega arith)))))
+    rw (hp′, hq′) (omega (arith, count-mono p q n (λ j k. h j (omega arith)))))
     (λ ne. omega (arith, bit-mono (p n) (q n) (h n (omega arith)), count-less p q n i (omega arith) hp hq (λ j k. h j (omega arith))))
 
 pub count-lt : (p : ℕ → Bool) (n i : ℕ) → i < n → p i ≡ false → countBelow p n < n
@@ -106,9 +106,9 @@ count-rel p q (suc n) m R into inj = split (p n)
     go e (k, l, h, r) rec =
         let q′ : ℕ → Bool = λ x. not (eqb x k) && q x in
         let d : countBelow q m ≡ suc (countBelow q′ m) =
-          count-drop q q′ m k l h (rw (eq-eqb k k refl)) (λ x _ ne. rw (ne-eqb x k ne)) in
+        count-drop q q′ m k l h (rw (eq-eqb k k refl)) (λ x _ ne. rw (ne-eqb x k ne)) in
         let c : countBelow p n ≤ countBelow q′ m = rec q′ (λ j lj hj.
-          let (x, lx, qx, rx) = into j (omega arith) hj in
-          let ne : x ≢ k = λ c. absurd (let z = inj j n k (omega arith) (omega arith) hj e (rw c at rx) r in omega arith) in
-          (x, lx, rw (ne-eqb x k ne) qx, rx)) in
+        let (x, lx, qx, rx) = into j (omega arith) hj in
+        let ne : x ≢ k = λ c. absurd (let z = inj j n k (omega arith) (omega arith) hj e (rw c at rx) r in omega arith) in
+        (x, lx, rw (ne-eqb x k ne) qx, rx)) in
         rw e (omega arith)

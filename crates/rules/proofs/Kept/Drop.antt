@@ -48,29 +48,29 @@ module _ (l : List ℕ) (moving : Option ℕ) (p : ℕ) where
     -- one head more, whichever way it went
     next : (v : Heads) (x : ℕ) → Seat u v k x → (Room h → k < room h → Cell h v k) → Dropped (suc k) h v
     next v x s c = record {
-        rooms = s .rooms ∙ d .rooms;
-        roomy = λ r. s .roomy (d .roomy r);
-        cells = λ r i li n. same? i k
+      rooms = s .rooms ∙ d .rooms;
+      roomy = λ r. s .roomy (d .roomy r);
+      cells = λ r i li n. same? i k
           (λ q. rw q (c r (rw q at n)))
           (λ ne. cell-on h u v i (s .rest i ne) (d .cells r i (omega arith) n));
-        later = λ i li. s .rest i (omega arith) ∙ d .later i (omega arith)
-      }
+      later = λ i li. s .rest i (omega arith) ∙ d .later i (omega arith);
+    }
 
     turn : Dropped (suc k) h (dropHead l moving p k u)
     unfolding dropHead
     turn = split (isAt moving k)
         (λ a. rw a (next (withTips u (set (u .tips) k p)) p (tip-seat u k p) (λ r n. moved a (tip-seat u k p .here (rw (d .rooms) n)))))
         (λ a. split (headFreed l (u .tips) k)
-          (λ f. rw (a, f) (next (clear u k) NONE (clear-seat u k)
-            (λ r n. emptied a (sym (freed-same h u k (d .later k (omega arith))) ∙ f) (put-head u k emptyHead zero-length (d .roomy r) (rw (d .rooms) n)))))
-          (λ f. rw (a, f) (record {
-            rooms = d .rooms;
-            roomy = d .roomy;
-            cells = λ r i li n. same? i k
+        (λ f. rw (a, f) (next (clear u k) NONE (clear-seat u k)
+        (λ r n. emptied a (sym (freed-same h u k (d .later k (omega arith))) ∙ f) (put-head u k emptyHead zero-length (d .roomy r) (rw (d .rooms) n)))))
+        (λ f. rw (a, f) (record {
+          rooms = d .rooms;
+          roomy = d .roomy;
+          cells = λ r i li n. same? i k
               (λ q. rw q (left a (sym (freed-same h u k (d .later k (omega arith))) ∙ f) (d .later k (omega arith))))
               (λ ne. d .cells r i (omega arith) n);
-            later = λ i li. d .later i (omega arith)
-          })))
+          later = λ i li. d .later i (omega arith);
+        })))
 
   pub dropped : (k : ℕ) (h : Heads) → Dropped k h (inOrder (dropHead l moving p) k h)
   unfolding inOrder

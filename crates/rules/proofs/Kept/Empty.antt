@@ -39,8 +39,14 @@ module _ (n : ℕ) where
   empty-shape a b =
       let e = length-replicate n NONE in
       let z = length-replicate {A = ℕ} n 0 in
-      record { some = omega arith; small = omega arith; parents = refl; counts = z ∙ sym e; flagged = z ∙ sym e;
-        hashed = length-replicate {A = ℕ} (n * hashLength) 0 ∙ rw e refl }
+      record {
+        some = omega arith;
+        small = omega arith;
+        parents = refl;
+        counts = z ∙ sym e;
+        flagged = z ∙ sym e;
+        hashed = length-replicate {A = ℕ} (n * hashLength) 0 ∙ rw e refl;
+      }
 
 module _ (m : ℕ) where
   pub no-head : (k : ℕ) → headAt (emptyHeads m) k ≡ emptyHead
@@ -60,5 +66,12 @@ module _ (m : ℕ) where
   empty-room a b =
       let e = length-replicate m NONE in
       let z = length-replicate {A = ℕ} m 0 in
-      record { two = omega arith; few = omega arith; tailed = refl; missed = length-replicate {A = ℕ} (m * hashLength) 0 ∙ rw e refl;
-        asked = z ∙ sym e; arrived = z ∙ sym e; flagged = z ∙ sym e }
+      record {
+        two = omega arith;
+        few = omega arith;
+        tailed = refl;
+        missed = length-replicate {A = ℕ} (m * hashLength) 0 ∙ rw e refl;
+        asked = z ∙ sym e;
+        arrived = z ∙ sym e;
+        flagged = z ∙ sym e;
+      }

@@ -31,7 +31,7 @@ depth-falls t i p o h = count-less (lower t (seqOf t p)) (lower t (seqOf t i)) (
     (and-false-r (holds t p) (ltb (seqOf t p) (seqOf t p)) (le-ltb (seqOf t p) (seqOf t p) (omega arith)))
     (and-both (holds t p) (ltb (seqOf t p) (seqOf t i)) o (lt-ltb (seqOf t p) (seqOf t i) h))
     (λ j l e. let q = and-true (holds t j) (ltb (seqOf t j) (seqOf t p)) e in
-      and-both (holds t j) (ltb (seqOf t j) (seqOf t i)) (q .0) (lt-ltb (seqOf t j) (seqOf t i) (omega (arith, ltb-true (seqOf t j) (seqOf t p) (q .1)))))
+    and-both (holds t j) (ltb (seqOf t j) (seqOf t i)) (q .0) (lt-ltb (seqOf t j) (seqOf t i) (omega (arith, ltb-true (seqOf t j) (seqOf t p) (q .1)))))
 
 pub depth-lt : (t : Blocks) (i : ℕ) → holds t i ≡ true → depth t i < size t
 unfolding depth lower
@@ -62,10 +62,10 @@ walk-ends zero t last i l o d = absurd (omega arith)
 walk-ends (suc f) t last i l o d = split (onChain t i)
     (λ a. rw (from-active t f last i o a) (at-active i o a))
     (λ a. same? (parentOf t i) NONE
-      (λ e. rw (from-root t f last i o a e) (at-root i o a e))
-      (λ ne. rw (from-up t f last i o a ne) (
-        let p = parent-there t i l o ne in
-        goes-on i o a ne (walk-ends f t i (parentOf t i) l (p .0) (omega (arith, depth-falls t i (parentOf t i) (p .0) (omega arith)))))))
+    (λ e. rw (from-root t f last i o a e) (at-root i o a e))
+    (λ ne. rw (from-up t f last i o a ne) (
+    let p = parent-there t i l o ne in
+    goes-on i o a ne (walk-ends f t i (parentOf t i) l (p .0) (omega (arith, depth-falls t i (parentOf t i) (p .0) (omega arith)))))))
 
 abbrev pub located : Blocks → ℕ → Anchor
 located t i = locateAnchor (t .parents) (t .sequences) (t .flags) i
@@ -104,7 +104,7 @@ height-falls t i p o h = count-less (higher t (seqOf t p)) (higher t (seqOf t i)
     (and-false-r (holds t p) (ltb (seqOf t p) (seqOf t p)) (le-ltb (seqOf t p) (seqOf t p) (omega arith)))
     (and-both (holds t p) (ltb (seqOf t i) (seqOf t p)) o (lt-ltb (seqOf t i) (seqOf t p) h))
     (λ j l e. let q = and-true (holds t j) (ltb (seqOf t p) (seqOf t j)) e in
-      and-both (holds t j) (ltb (seqOf t i) (seqOf t j)) (q .0) (lt-ltb (seqOf t i) (seqOf t j) (omega (arith, ltb-true (seqOf t p) (seqOf t j) (q .1)))))
+    and-both (holds t j) (ltb (seqOf t i) (seqOf t j)) (q .0) (lt-ltb (seqOf t i) (seqOf t j) (omega (arith, ltb-true (seqOf t p) (seqOf t j) (q .1)))))
 
 -- a block with childrenOf has a child
 pub some-child {ℓ} : {A : Type ℓ} (t : Blocks) (i : ℕ) → 0 < childrenOf t i → ((j : ℕ) → holds t j ≡ true → parentOf t j ≡ i → A) → A
@@ -124,8 +124,8 @@ leaf zero t i l s o h = absurd (omega arith)
 leaf (suc f) t i l s o h = zero? (childrenOf t i)
     (λ z. (i, o, z, here))
     (λ k e. some-child t i (omega arith) (λ j oj q.
-      let n : parentOf t j ≢ NONE = rw q (holds-real t i s o) in
-      let p = parent-there t j l oj n in
-      let fall : seqOf t i < seqOf t j = omega (arith, rw q at (p .1)) in
-      let r = leaf f t j l s oj (omega (arith, height-falls t i j oj fall)) in
-      (r .0, r .1, r .2, above-trans t i j (r .0) (up j oj (rw q here)) (r .3))))
+    let n : parentOf t j ≢ NONE = rw q (holds-real t i s o) in
+    let p = parent-there t j l oj n in
+    let fall : seqOf t i < seqOf t j = omega (arith, rw q at (p .1)) in
+    let r = leaf f t j l s oj (omega (arith, height-falls t i j oj fall)) in
+    (r .0, r .1, r .2, above-trans t i j (r .0) (up j oj (rw q here)) (r .3))))

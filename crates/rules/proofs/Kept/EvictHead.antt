@@ -27,20 +27,20 @@ module _ (t : Blocks) (h : Heads) (top : ℕ) (C : ℕ → Type 0) (g : Good t h
 
   owed : Owed t (tipOf h v)
   owed = let p = g .frame .tips v uv in
-    record {
-      shape = g .frame .counts .shape;
-      linked = g .frame .counts .linked;
-      voids = g .frame .voids;
-      others = λ j _ oj aj. g .frame .counts .counted j oj aj;
-      here = λ o a. omega (arith, g .frame .counts .counted (tipOf h v) o a)
-    }
+      record {
+        shape = g .frame .counts .shape;
+        linked = g .frame .counts .linked;
+        voids = g .frame .voids;
+        others = λ j _ oj aj. g .frame .counts .counted j oj aj;
+        here = λ o a. omega (arith, g .frame .counts .counted (tipOf h v) o a);
+      }
 
   pub trace : Freed t (tipOf h v) evicted
   trace = all-freed t (tipOf h v) owed
 
   stays : (s : ℕ) → s ≢ v → inUse h s ≡ true → (holds evicted (tipOf h s) ≡ true) × (childrenOf evicted (tipOf h s) ≡ 0)
   stays s ne u = let p = g .frame .tips s u in
-    freed-leaf t (tipOf h v) evicted trace (tipOf h s) (λ q. ne (g .frame .apart s v u uv q)) (p .0) (p .1)
+      freed-leaf t (tipOf h v) evicted trace (tipOf h s) (λ q. ne (g .frame .apart s v u uv q)) (p .0) (p .1)
 
   pub evict-good : Good evicted (clear h v) top C
   evict-good =
@@ -55,25 +55,25 @@ module _ (t : Blocks) (h : Heads) (top : ℕ) (C : ℕ → Type 0) (g : Good t h
           blanks = clear-blanks h v (g .frame .roomy) uv (g .frame .blanks);
           tips = λ s u. let c = clear-other h v s u in rw (tip s (c .0)) (stays s (c .0) (c .1));
           apart = λ s r us ur q.
-            let cs = clear-other h v s us in
-            let cr = clear-other h v r ur in
-            g .frame .apart s r (cs .1) (cr .1) (sym (tip s (cs .0)) ∙ q ∙ tip r (cr .0));
+              let cs = clear-other h v s us in
+              let cr = clear-other h v r ur in
+              g .frame .apart s r (cs .1) (cr .1) (sym (tip s (cs .0)) ∙ q ∙ tip r (cr .0));
           covered = λ i ci o a z.
-            let d = freed-childless t (tipOf h v) evicted trace i o a z in
-            let b = freed-back t (tipOf h v) evicted trace i o in
-            let w = g .frame .covered i ci (b .0) (sym (b .3) ∙ a) (d .1) in
-            let ne : w .0 ≢ v = λ q. d .0 (sym (w .2) ∙ ap (tipOf h) q) in
-            (w .0, rw (busy (w .0) ne) (w .1), rw (tip (w .0) ne) (w .2));
+              let d = freed-childless t (tipOf h v) evicted trace i o a z in
+              let b = freed-back t (tipOf h v) evicted trace i o in
+              let w = g .frame .covered i ci (b .0) (sym (b .3) ∙ a) (d .1) in
+              let ne : w .0 ≢ v = λ q. d .0 (sym (w .2) ∙ ap (tipOf h) q) in
+              (w .0, rw (busy (w .0) ne) (w .1), rw (tip (w .0) ne) (w .2));
           chained = λ i o a ne.
-            let b = freed-back t (tipOf h v) evicted trace i o in
-            let c = g .frame .chained i (b .0) (sym (b .3) ∙ a) ne in
-            let p = freed-active t (tipOf h v) evicted trace (c .0) (c .1) (c .2) in
-            (c .0, p .0, p .1, p .2 ∙ c .3)
+              let b = freed-back t (tipOf h v) evicted trace i o in
+              let c = g .frame .chained i (b .0) (sym (b .3) ∙ a) ne in
+              let p = freed-active t (tipOf h v) evicted trace (c .0) (c .1) (c .2) in
+              (c .0, p .0, p .1, p .2 ∙ c .3);
         };
         anchored = λ s u.
-          let c = clear-other h v s u in
-          rw (tip s (c .0), seat-kept h (clear h v) v NONE (clear-seat h v) s (c .0))
-            (freed-ends t (tipOf h v) evicted trace (tipOf h s) (kept h s) (stays s (c .0) (c .1) .0) (g .anchored s (c .1)))
+            let c = clear-other h v s u in
+            rw (tip s (c .0), seat-kept h (clear h v) v NONE (clear-seat h v) s (c .0))
+            (freed-ends t (tipOf h v) evicted trace (tipOf h s) (kept h s) (stays s (c .0) (c .1) .0) (g .anchored s (c .1)));
       }
 
 -- ---- the victim
@@ -91,8 +91,8 @@ module _ (hashes sequences tips : List ℕ) (top : ℕ) where
   unfolding victim mayGo
   victim-none e s l u o = same? (tipAt tips s) top (λ q. q) (λ ne.
       true-not-false {b = mayGo sequences tips top s}
-        (rw (u, ne-eqb (tipAt tips s) top ne, o))
-        (best-none (mayGo sequences tips top) (λ j k. blockBefore hashes sequences (tipAt tips j) (tipAt tips k)) (slotsOf tips) s e l))
+      (rw (u, ne-eqb (tipAt tips s) top ne, o))
+      (best-none (mayGo sequences tips top) (λ j k. blockBefore hashes sequences (tipAt tips j) (tipAt tips k)) (slotsOf tips) s e l))
 
 -- of two heads one is not the active one
 pub victim-there : (t : Blocks) (h : Heads) (top : ℕ) → Room h → Apart h → ((s : ℕ) → inUse h s ≡ true → holds t (tipOf h s) ≡ true)

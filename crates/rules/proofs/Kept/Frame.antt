@@ -80,11 +80,11 @@ module _ (h : Heads) (x s : ℕ) where
 pub seat-apart : (h u : Heads) (k x : ℕ) → Seat h u k x → Apart h → ((r : ℕ) → r ≢ k → inUse h r ≡ true → tipOf h r ≢ x) → k < room h → Apart u
 seat-apart h u k x s apart bare l r v ur uv e = same? r k
     (λ qr. same? v k
-      (λ qv. qr ∙ sym qv)
-      (λ nv. absurd (bare v nv (sym (seat-use h u k x s v nv) ∙ uv) (sym (seat-tip h u k x s v nv) ∙ sym e ∙ (rw qr (s .here l))))))
+    (λ qv. qr ∙ sym qv)
+    (λ nv. absurd (bare v nv (sym (seat-use h u k x s v nv) ∙ uv) (sym (seat-tip h u k x s v nv) ∙ sym e ∙ (rw qr (s .here l))))))
     (λ nr. same? v k
-      (λ qv. absurd (bare r nr (sym (seat-use h u k x s r nr) ∙ ur) (sym (seat-tip h u k x s r nr) ∙ e ∙ (rw qv (s .here l)))))
-      (λ nv. apart r v (sym (seat-use h u k x s r nr) ∙ ur) (sym (seat-use h u k x s v nv) ∙ uv) (sym (seat-tip h u k x s r nr) ∙ e ∙ seat-tip h u k x s v nv)))
+    (λ qv. absurd (bare r nr (sym (seat-use h u k x s r nr) ∙ ur) (sym (seat-tip h u k x s r nr) ∙ e ∙ (rw qv (s .here l)))))
+    (λ nv. apart r v (sym (seat-use h u k x s r nr) ∙ ur) (sym (seat-use h u k x s v nv) ∙ uv) (sym (seat-tip h u k x s r nr) ∙ e ∙ seat-tip h u k x s v nv)))
 
 module _ (t : Blocks) (h u : Heads) (top k x : ℕ) (C D : ℕ → Type 0) (g : Frame t h top C) (s : Seat h u k x) (l : k < room h)
     (ox : holds t x ≡ true) (zx : childrenOf t x ≡ 0) (bare : (r : ℕ) → r ≢ k → inUse h r ≡ true → tipOf h r ≢ x)
@@ -98,24 +98,24 @@ module _ (t : Blocks) (h u : Heads) (top k x : ℕ) (C D : ℕ → Type 0) (g : 
         roomy = s .roomy (g .roomy);
         blanks = seat-blanks h u k x s here (g .blanks);
         tips = λ r ur. same? r k
-          (λ q. rw (q, s .here l) (ox, zx))
-          (λ ne. rw (seat-tip h u k x s r ne) (g .tips r (sym (seat-use h u k x s r ne) ∙ ur)));
+            (λ q. rw (q, s .here l) (ox, zx))
+            (λ ne. rw (seat-tip h u k x s r ne) (g .tips r (sym (seat-use h u k x s r ne) ∙ ur)));
         apart = seat-apart h u k x s (g .apart) bare l;
         covered = λ i d o a z. same? i x
-          (λ q. (k, here, rw (s .here l) (sym q)))
-          (λ ne.
+            (λ q. (k, here, rw (s .here l) (sym q)))
+            (λ ne.
             let n = need i d ne in
             let (r, ur, e) = g .covered i (n .0) o a z in
             let nk : r ≢ k = λ q. n .1 (rw q at ur) (rw q at e) in
             (r, rw (seat-use h u k x s r nk) ur, rw (seat-tip h u k x s r nk) e));
-        chained = g .chained
+        chained = g .chained;
       }
 
   -- the new head's anchor is right, and the others' as they were
   pub seat-good : ((r : ℕ) → r ≢ k → inUse h r ≡ true → Ends t (tipOf h r) (kept h r)) → Ends t x (kept u k) → Good t u top D
   seat-good right new = record {
-      frame = seat-frame;
-      anchored = λ r ur. same? r k
+    frame = seat-frame;
+    anchored = λ r ur. same? r k
         (λ q. rw (q, s .here l) new)
-        (λ ne. rw (seat-tip h u k x s r ne, seat-kept h u k x s r ne) (right r ne (sym (seat-use h u k x s r ne) ∙ ur)))
-    }
+        (λ ne. rw (seat-tip h u k x s r ne, seat-kept h u k x s r ne) (right r ne (sym (seat-use h u k x s r ne) ∙ ur)));
+  }

@@ -65,31 +65,32 @@ erase-linked : (t : Blocks) (i : ℕ) → childrenOf t i ≡ 0 → Linked t → 
 erase-linked t i h l j o = same? j i
     (λ q. true-not-false {b = holds (erase t i) j} o (rw q (erase-empty t i)))
     (λ ne.
-      let b = erase-but t i in
-      let o′ : holds t j ≡ true = sym (but-holds t (erase t i) i b j ne) ∙ o in
-      rw (but-parent t (erase t i) i b j ne, but-seq t (erase t i) i b j ne) (elim (l j o′) [
-        inl e ↦ inl e
+    let b = erase-but t i in
+    let o′ : holds t j ≡ true = sym (but-holds t (erase t i) i b j ne) ∙ o in
+    rw (but-parent t (erase t i) i b j ne, but-seq t (erase t i) i b j ne) (elim (l j o′) [
+      | inl e ↦ inl e
       | inr p ↦
           let pne : parentOf t j ≢ i = childless t i j h o′ in
-          inr (rw (but-holds t (erase t i) i b (parentOf t j) pne) (p .0), rw (but-seq t (erase t i) i b (parentOf t j) pne) (p .1)) ]))
+          inr (rw (but-holds t (erase t i) i b (parentOf t j) pne) (p .0), rw (but-seq t (erase t i) i b (parentOf t j) pne) (p .1))
+    ]))
 
 owed-erase : (t : Blocks) (i : ℕ) → Owed t i → holds t i ≡ true → childrenOf t i ≡ 0 → Owed (erase t i) (parentOf t i)
 owed-erase t i w oi h = let b = erase-but t i in
-  record {
-    shape = b .shapes (w .shape);
-    linked = erase-linked t i h (w .linked);
-    voids = erase-voids t i (w .shape) oi (w .voids);
-    others = λ j ne o a. same? j i
-      (λ q. true-not-false {b = holds (erase t i) j} o (rw q (erase-empty t i)))
-      (λ nj.
-        rw (but-count t (erase t i) i b j nj, erase-kids-other t i j (λ q. ne (sym q)))
+    record {
+      shape = b .shapes (w .shape);
+      linked = erase-linked t i h (w .linked);
+      voids = erase-voids t i (w .shape) oi (w .voids);
+      others = λ j ne o a. same? j i
+          (λ q. true-not-false {b = holds (erase t i) j} o (rw q (erase-empty t i)))
+          (λ nj.
+          rw (but-count t (erase t i) i b j nj, erase-kids-other t i j (λ q. ne (sym q)))
           (w .others j nj (sym (but-holds t (erase t i) i b j nj) ∙ o) (sym (but-chain t (erase t i) i b j nj) ∙ a)));
-    here = λ o a.
-      let p = parentOf t i in
-      let np : parentOf t i ≢ i = childless t i i h oi in
-      let e : countOf t p ≡ max 1 (childrenOf t p) = w .others p np (sym (but-holds t (erase t i) i b p np) ∙ o) (sym (but-chain t (erase t i) i b p np) ∙ a) in
-      rw (but-count t (erase t i) i b p np) (omega (arith, erase-kids-parent t i oi))
-  }
+      here = λ o a.
+          let p = parentOf t i in
+          let np : parentOf t i ≢ i = childless t i i h oi in
+          let e : countOf t p ≡ max 1 (childrenOf t p) = w .others p np (sym (but-holds t (erase t i) i b p np) ∙ o) (sym (but-chain t (erase t i) i b p np) ∙ a) in
+          rw (but-count t (erase t i) i b p np) (omega (arith, erase-kids-parent t i oi));
+    }
 
 occupiedCount : Blocks → ℕ
 occupiedCount t = countBelow (λ j. holds t j) (size t)
@@ -106,13 +107,13 @@ walk-freed zero t i w n = off t i (split (holds t i)
     (λ e. e))
 walk-freed (suc f) t i w n = split (holds t i)
     (λ o. split (onChain t i)
-      (λ a. rw (evict-active f t i o a) (keeps t i (countOf t i - 1) o (λ b. true-not-false {b = onChain t i} a b)))
-      (λ a. zero? (countOf t i - 1)
-        (λ c. rw (evict-free f t i o a c)
-          (let h : childrenOf t i ≡ 0 = omega (arith, w .here o a) in
-           frees t i (evictFrom f (erase t i) (parentOf t i)) o a h
-            (walk-freed f (erase t i) (parentOf t i) (owed-erase t i w o h) (omega (arith, erase-total t i o)))))
-        (λ k c. rw (evict-stop f t i k o a c) (keeps t i (suc k) o (λ _. (omega (arith, w .here o a), omega arith))))))
+    (λ a. rw (evict-active f t i o a) (keeps t i (countOf t i - 1) o (λ b. true-not-false {b = onChain t i} a b)))
+    (λ a. zero? (countOf t i - 1)
+    (λ c. rw (evict-free f t i o a c)
+    (let h : childrenOf t i ≡ 0 = omega (arith, w .here o a) in
+    frees t i (evictFrom f (erase t i) (parentOf t i)) o a h
+    (walk-freed f (erase t i) (parentOf t i) (owed-erase t i w o h) (omega (arith, erase-total t i o)))))
+    (λ k c. rw (evict-stop f t i k o a c) (keeps t i (suc k) o (λ _. (omega (arith, w .here o a), omega arith))))))
     (λ e. rw (evict-empty f t i e) (off t i e))
 
 pub all-freed : (t : Blocks) (i : ℕ) → Owed t i → Freed t i (evictFrom (size t) t i)
@@ -123,19 +124,25 @@ all-freed t i w = walk-freed (size t) t i w (count-le (λ j. holds t j) (size t)
 
 -- the block is kept, and its count made true
 owed-stop : (t : Blocks) (i c : ℕ) → Owed t i → holds t i ≡ true → (onChain t i ≡ false → c ≡ max 1 (childrenOf t i)) → Kept (setCount t i c) × Voids (setCount t i c)
-owed-stop t i c w o h = (record {
+owed-stop t i c w o h = (
+  record {
     shape = count-but t i c .shapes (w .shape);
     linked = w .linked;
     counted = λ j oj a. rw count-kids (same? j i
-      (λ q. rw (q, count-here t i c (w .shape) o) (h (rw q at a)))
-      (λ ne. rw (but-count t (setCount t i c) i (count-but t i c) j ne) (w .others j ne oj a)))
-  }, but-voids t (setCount t i c) i (count-but t i c) o (w .voids))
+        (λ q. rw (q, count-here t i c (w .shape) o) (h (rw q at a)))
+        (λ ne. rw (but-count t (setCount t i c) i (count-but t i c) j ne) (w .others j ne oj a)));
+  },
+  but-voids t (setCount t i c) i (count-but t i c) o (w .voids),
+)
 
 pub freed-kept : (t : Blocks) (i : ℕ) (u : Blocks) → Freed t i u → Owed t i → Kept u × Voids u
-freed-kept t i u (off t′ i′ e) w = (record {
+freed-kept t i u (off t′ i′ e) w = (
+  record {
     shape = w .shape;
     linked = w .linked;
-    counted = λ j o a. w .others j (λ q. true-not-false {b = holds t j} o (rw q e)) o a
-  }, w .voids)
+    counted = λ j o a. w .others j (λ q. true-not-false {b = holds t j} o (rw q e)) o a;
+  },
+  w .voids,
+)
 freed-kept t i u (keeps t′ i′ c o h) w = owed-stop t i c w o (λ a. omega (arith, h a))
 freed-kept t i u (frees t′ i′ u′ o a h r) w = freed-kept (erase t i) (parentOf t i) u r (owed-erase t i w o h)

@@ -81,13 +81,15 @@ module _ (t : Blocks) (i q : ℕ) (hash : List ℕ) (p : ℕ) (k : Kept t) (f : 
   -- nobody names an empty slot as parent
   pub unnamed : (j : ℕ) → holds t j ≡ true → parentOf t j ≢ i
   unnamed j o e = elim (k .linked j o) [
-      inl n ↦ absurd (real (sym e ∙ n))
-    | inr w ↦ true-not-false {b = holds t i} (rw e at (w .0)) (f .free) ]
+    | inl n ↦ absurd (real (sym e ∙ n))
+    | inr w ↦ true-not-false {b = holds t i} (rw e at (w .0)) (f .free)
+  ]
 
   pub parent-not-self : p ≢ i
   parent-not-self e = elim (f .parentOk) [
-      inl n ↦ absurd (real (sym e ∙ n))
-    | inr w ↦ true-not-false {b = holds t i} (rw e at (w .0)) (f .free) ]
+    | inl n ↦ absurd (real (sym e ∙ n))
+    | inr w ↦ true-not-false {b = holds t i} (rw e at (w .0)) (f .free)
+  ]
 
   before : (x : ℕ) → isChild t x i ≡ false
   before x = rw (empty-eq t i (f .free))
@@ -113,14 +115,16 @@ module _ (t : Blocks) (i q : ℕ) (hash : List ℕ) (p : ℕ) (k : Kept t) (f : 
   pub insert-linked : Linked u
   insert-linked j o = let b = insert-but in same? j i
       (λ e. rw (e, insert-parent, insert-seq) (elim (f .parentOk) [
-        inl n ↦ inl n
-      | inr w ↦ inr (but-holds t u i b p parent-not-self ∙ w .0, rw (but-seq t u i b p parent-not-self) (w .1)) ]))
+        | inl n ↦ inl n
+        | inr w ↦ inr (but-holds t u i b p parent-not-self ∙ w .0, rw (but-seq t u i b p parent-not-self) (w .1))
+      ]))
       (λ ne.
-        let o′ : holds t j ≡ true = sym (but-holds t u i b j ne) ∙ o in
-        let np : parentOf t j ≢ i = unnamed j o′ in
-        rw (but-parent t u i b j ne, but-seq t u i b j ne) (elim (k .linked j o′) [
-          inl n ↦ inl n
-        | inr w ↦ inr (but-holds t u i b (parentOf t j) np ∙ w .0, rw (but-seq t u i b (parentOf t j) np) (w .1)) ]))
+      let o′ : holds t j ≡ true = sym (but-holds t u i b j ne) ∙ o in
+      let np : parentOf t j ≢ i = unnamed j o′ in
+      rw (but-parent t u i b j ne, but-seq t u i b j ne) (elim (k .linked j o′) [
+        | inl n ↦ inl n
+        | inr w ↦ inr (but-holds t u i b (parentOf t j) np ∙ w .0, rw (but-seq t u i b (parentOf t j) np) (w .1))
+      ]))
 
   pub insert-voids : Voids t → Voids u
   insert-voids = but-voids t u i insert-but insert-holds
@@ -132,9 +136,9 @@ module _ (t : Blocks) (i q : ℕ) (hash : List ℕ) (p : ℕ) (k : Kept t) (f : 
       record {
         keeps = λ j o a. let ne = old j o in (but-holds t u i b j ne ∙ o, but-chain t u i b j ne ∙ a, λ _. but-parent t u i b j ne);
         back = λ j o a.
-          let ne : j ≢ i = λ e. true-not-false {b = onChain u j} a (rw e insert-chain) in
-          (sym (but-holds t u i b j ne) ∙ o, sym (but-chain t u i b j ne) ∙ a);
-        same = λ j ne o. (sym (but-holds t u i b j ne) ∙ o, but-seq t u i b j ne, but-hash t u i b j ne)
+            let ne : j ≢ i = λ e. true-not-false {b = onChain u j} a (rw e insert-chain) in
+            (sym (but-holds t u i b j ne) ∙ o, sym (but-chain t u i b j ne) ∙ a);
+        same = λ j ne o. (sym (but-holds t u i b j ne) ∙ o, but-seq t u i b j ne, but-hash t u i b j ne);
       }
 
   -- ---- as the rule does it: the count is 0, and then rises to 1
@@ -144,4 +148,4 @@ module _ (t : Blocks) (i q : ℕ) (hash : List ℕ) (p : ℕ) (k : Kept t) (f : 
   insert-is =
       let o : occupied (set (t .sequences) i q) i ≡ true = (let w = insert-holds in w) in
       rw (lt-ltb i (slotsOf (t .sequences)) (rw (kids-slots t (k .shape)) (f .inside)), o)
-        (rw (getD-set-same (t .counts) i 0 0 (let l = f .inside in let c = k .shape .counts in omega arith), set-set (t .counts) i 0 (min 255 (0 + 1))))
+      (rw (getD-set-same (t .counts) i 0 0 (let l = f .inside in let c = k .shape .counts in omega arith), set-set (t .counts) i 0 (min 255 (0 + 1))))

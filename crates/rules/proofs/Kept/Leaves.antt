@@ -69,9 +69,13 @@ module _ (t : Blocks) (h : Heads) (top : ℕ) (C : ℕ → Type 0) (g : Frame t 
 
   pub children-bound : (i : ℕ) → i ≢ NONE → childrenOf t i ≤ suc (room h)
   unfolding childrenOf occupied
-  children-bound i ni = omega (arith, count-rel (isChild t i) (λ _. true) (size t) (suc (room h)) Partner
-      (λ j l e. partner j (and-true (holds t j) (eqb (parentOf t j) i) e .0))
-      (λ a b s _ _ ea eb ra rb.
+  children-bound i ni = omega (
+    arith,
+    count-rel (isChild t i) (λ _. true) (size t) (suc (room h)) Partner
+        (λ j l e. partner j (and-true (holds t j) (eqb (parentOf t j) i) e .0))
+        (λ a b s _ _ ea eb ra rb.
         let ca = and-true (holds t a) (eqb (parentOf t a) i) ea in
         let cb = and-true (holds t b) (eqb (parentOf t b) i) eb in
-        siblings i a b s ni (ca .0) (cb .0) (eqb-true (parentOf t a) i (ca .1)) (eqb-true (parentOf t b) i (cb .1)) ra rb), count-le (λ _. true) (suc (room h)))
+        siblings i a b s ni (ca .0) (cb .0) (eqb-true (parentOf t a) i (ca .1)) (eqb-true (parentOf t b) i (cb .1)) ra rb),
+    count-le (λ _. true) (suc (room h)),
+  )

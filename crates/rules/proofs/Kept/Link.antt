@@ -85,26 +85,26 @@ module _ (t : Blocks) (h : Heads) (top x T : ℕ) (g : Frame t h top All) (w : W
           shape = but .shapes shape;
           linked = linked;
           counted = λ j o a.
-            let cj = g .counts .counted j o a in
-            same? j x
+              let cj = g .counts .counted j o a in
+              same? j x
               (λ e. let cx = rw e at cj in let z = rw q at (g .tips s us .1) in rw e (omega (arith, more)))
-              (λ ne. rw (others j o ne) cj)
+              (λ ne. rw (others j o ne) cj);
         };
         voids = voids;
         roomy = clear-seat h s .roomy (g .roomy);
         blanks = clear-blanks h s (g .roomy) us (g .blanks);
         tips = λ r ur.
-          let c = clear-other h s r ur in
-          rw (tip r (c .0)) (tips r (c .1) (λ e. c .0 (g .apart r s (c .1) us (e ∙ sym q))));
+            let c = clear-other h s r ur in
+            rw (tip r (c .0)) (tips r (c .1) (λ e. c .0 (g .apart r s (c .1) us (e ∙ sym q))));
         apart = λ r v ur uv e.
-          let cr = clear-other h s r ur in
-          let cv = clear-other h s v uv in
-          g .apart r v (cr .1) (cv .1) (sym (tip r (cr .0)) ∙ e ∙ tip v (cv .0));
+            let cr = clear-other h s r ur in
+            let cv = clear-other h s v uv in
+            g .apart r v (cr .1) (cv .1) (sym (tip r (cr .0)) ∙ e ∙ tip v (cv .0));
         covered = λ i _ o a z.
-          let (r, ur, e, nx) = covered i o a z in
-          let ne : r ≢ s = λ p. nx (sym e ∙ ap (tipOf h) p ∙ q) in
-          (r, rw (seat-use h (clear h s) s NONE (clear-seat h s) r ne) ur, rw (tip r ne) e);
-        chained = chained
+            let (r, ur, e, nx) = covered i o a z in
+            let ne : r ≢ s = λ p. nx (sym e ∙ ap (tipOf h) p ∙ q) in
+            (r, rw (seat-use h (clear h s) s NONE (clear-seat h s) r ne) ur, rw (tip r ne) e);
+        chained = chained;
       }
 
   -- a further one: the count rises by one
@@ -118,8 +118,8 @@ module _ (t : Blocks) (h : Heads) (top x T : ℕ) (g : Frame t h top All) (w : W
           shape = count-but u x c .shapes (but .shapes shape);
           linked = linked;
           counted = λ j o a. rw count-kids (same? j x
-            (λ e. rw (e, count-here u x c (but .shapes shape) (w .home)) (omega (arith, more)))
-            (λ ne. rw (but-count u (setCount u x c) x (count-but u x c) j ne, others j o ne) (g .counts .counted j o a)))
+              (λ e. rw (e, count-here u x c (but .shapes shape) (w .home)) (omega (arith, more)))
+              (λ ne. rw (but-count u (setCount u x c) x (count-but u x c) j ne, others j o ne) (g .counts .counted j o a)));
         };
         voids = but-voids u (setCount u x c) x (count-but u x c) (w .home) voids;
         roomy = g .roomy;
@@ -127,7 +127,7 @@ module _ (t : Blocks) (h : Heads) (top x T : ℕ) (g : Frame t h top All) (w : W
         tips = λ s us. let p = tips s us (head-none h x s (g .roomy) n us) in (p .0, rw count-kids (p .1));
         apart = g .apart;
         covered = λ i _ o a z. let r = covered i o a (rw count-kids at z) in (r .0, r .1, r .2);
-        chained = chained
+        chained = chained;
       }
 
   -- ---- walks
@@ -145,11 +145,12 @@ module _ (t : Blocks) (h : Heads) (top x T : ℕ) (g : Frame t h top All) (w : W
   -- a walk that ended at T is late now; every other ends where it did
   pub loose-link : Apt t h (Late t) → Apt u h (Late u)
   loose-link l s us = elim (l s us) [
-      inl e ↦ anchor? (kept h s)
+    | inl e ↦ anchor? (kept h s)
         (λ i q. inl (link-ends (tipOf h s) (kept h s) e (λ c. let z : _≡_ {A = ℕ} 0 1 = cc in absurd (omega arith))))
         (λ i q. same? i T
-          (λ c. inr (T, q ∙ ap tail c, w .there, rw here (real x (w .home))))
-          (λ ne. inl (link-ends (tipOf h s) (kept h s) e (λ c. ne (let z : tail i ≡ tail T = sym q ∙ c in cc)))))
+        (λ c. inr (T, q ∙ ap tail c, w .there, rw here (real x (w .home))))
+        (λ ne. inl (link-ends (tipOf h s) (kept h s) e (λ c. ne (let z : tail i ≡ tail T = sym q ∙ c in cc)))))
     | inr r ↦
         let ne : r .0 ≢ T = λ c. r .3 (ap (parentOf t) c ∙ w .orphan) in
-        inr (r .0, r .1, r .2, rw (but-parent t u T but (r .0) ne) (r .3)) ]
+        inr (r .0, r .1, r .2, rw (but-parent t u T but (r .0) ne) (r .3))
+  ]

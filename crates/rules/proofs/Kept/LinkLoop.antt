@@ -42,8 +42,9 @@ apt-clear t h r need l s u =
 
 apt-count : (t : Blocks) (h : Heads) (i c : ℕ) → Apt t h (Late t) → Apt (setCount t i c) h (Late (setCount t i c))
 apt-count t h i c l s u = elim (l s u) [
-    inl e ↦ inl (ends-same t (setCount t i c) (λ _. (refl, refl, refl)) (tipOf h s) (kept h s) e)
-  | inr r ↦ inr r ]
+  | inl e ↦ inl (ends-same t (setCount t i c) (λ _. (refl, refl, refl)) (tipOf h s) (kept h s) e)
+  | inr r ↦ inr r
+]
 
 module _ (t : Blocks) (h : Heads) (x k : ℕ) where
   abbrev T : ℕ
@@ -65,8 +66,12 @@ module _ (t : Blocks) (h : Heads) (x k : ℕ) where
     by-fork : slotOfHead (h .tips) x ≡ none → Joining s top x q (link (record { blocks = t; heads = h }) x k)
     by-fork n =
         let f = j .frame in
-        let low : countOf t x < 255 = omega (arith, f .counts .counted x (v .home) (v .fresh), f .roomy .few,
-          children-bound t h top All f (λ _. tt) x (holds-real t x (f .counts .shape) (v .home))) in
+        let low : countOf t x < 255 = omega (
+          arith,
+          f .counts .counted x (v .home) (v .fresh),
+          f .roomy .few,
+          children-bound t h top All f (λ _. tt) x (holds-real t x (f .counts .shape) (v .home)),
+        ) in
         let u : Blocks = setParent t T x in
         let c : ℕ = suc (countOf t x) in
         rw (link-none n (v .home), raise-suc (countOf t x) low) (record {
@@ -76,7 +81,7 @@ module _ (t : Blocks) (h : Heads) (x k : ℕ) where
           fresh = v .fresh;
           known = j .known;
           steady = steady-trans NONE s u (setCount u x c) (steady-trans NONE s t u (j .steady) (link-steady v))
-            (but-steady NONE u (setCount u x c) x (count-but u x c) refl refl refl refl (λ _. refl))
+              (but-steady NONE u (setCount u x c) x (count-but u x c) refl refl refl refl (λ _. refl));
         })
 
     by-merge : (r : ℕ) → slotOfHead (h .tips) x ≡ some r → Joining s top x q (link (record { blocks = t; heads = h }) x k)
@@ -90,7 +95,7 @@ module _ (t : Blocks) (h : Heads) (x k : ℕ) where
           home = v .home;
           fresh = v .fresh;
           known = j .known;
-          steady = steady-trans NONE s t u (j .steady) (link-steady v)
+          steady = steady-trans NONE s t u (j .steady) (link-steady v);
         })
 
     pub link-keeps : Joining s top x q (link (record { blocks = t; heads = h }) x k)

@@ -45,16 +45,16 @@ module _ (test : ℕ → Bool) where
   below-in (suc n) i l e = same? n i
       (λ q. below-yes n i (rw q e) ∙ split (below n i) (λ b. rw b refl) (λ b. rw b (eq-eqb n i q)))
       (λ ne. split (test n)
-        (λ t. below-yes n i t ∙ rw (below-in n i (omega arith) e))
-        (λ t. below-no n i t ∙ below-in n i (omega arith) e))
+      (λ t. below-yes n i t ∙ rw (below-in n i (omega arith) e))
+      (λ t. below-no n i t ∙ below-in n i (omega arith) e))
 
   below-out : (n i : ℕ) → below n i ≡ true → test i ≡ true
   unfolding below allBelow listed
   below-out zero i b = true-not-false {b = false} b refl
   below-out (suc n) i b = split (test n)
       (λ t. split (below n i)
-        (λ c. below-out n i c)
-        (λ c. let q = eqb-true n i (rw c at (sym (below-yes n i t) ∙ b)) in rw (← q) t))
+      (λ c. below-out n i c)
+      (λ c. let q = eqb-true n i (rw c at (sym (below-yes n i t) ∙ b)) in rw (← q) t))
       (λ t. below-out n i (sym (below-no n i t) ∙ b))
 
 -- ---- the walk to the root
@@ -68,12 +68,12 @@ module _ (t : Blocks) (r : ℕ) (s : Shape t) (l : Linked t) where
   reaches-more (suc f) (suc g) j o a b = same? j r
       (λ q. reaches-root (t .parents) (t .sequences) r (suc f) j (omega arith) q ∙ sym (reaches-root (t .parents) (t .sequences) r (suc g) j (omega arith) q))
       (λ ne. same? (parentOf t j) NONE
-        (λ e. reaches-end (t .parents) (t .sequences) r (suc f) j (omega arith) ne o e ∙ sym (reaches-end (t .parents) (t .sequences) r (suc g) j (omega arith) ne o e))
-        (λ np.
-          let p = parent-there t j l o np in
-          let d = depth-falls t j (parentOf t j) (p .0) (omega arith) in
-          reaches-up (t .parents) (t .sequences) r f j ne o np ∙ reaches-more f g (parentOf t j) (p .0) (omega arith) (omega arith)
-          ∙ sym (reaches-up (t .parents) (t .sequences) r g j ne o np)))
+      (λ e. reaches-end (t .parents) (t .sequences) r (suc f) j (omega arith) ne o e ∙ sym (reaches-end (t .parents) (t .sequences) r (suc g) j (omega arith) ne o e))
+      (λ np.
+      let p = parent-there t j l o np in
+      let d = depth-falls t j (parentOf t j) (p .0) (omega arith) in
+      reaches-up (t .parents) (t .sequences) r f j ne o np ∙ reaches-more f g (parentOf t j) (p .0) (omega arith) (omega arith)
+      ∙ sym (reaches-up (t .parents) (t .sequences) r g j ne o np)))
 
   module _ (root : holds t r ≡ true) where
     abbrev pub mark : ℕ → Bool
@@ -97,24 +97,24 @@ module _ (t : Blocks) (r : ℕ) (s : Shape t) (l : Linked t) where
         let d = depth-falls t j (parentOf t j) (p .0) (omega arith) in
         let e = depth-lt t j o in
         rw (mark-is j o, mark-is (parentOf t j) (p .0)) (zero? (size t)
-          (λ z. absurd (omega arith))
-          (λ n q. rw q (reaches-up (t .parents) (t .sequences) r n j ne o np ∙ reaches-more n (suc n) (parentOf t j) (p .0) (omega arith) (omega arith))))
+        (λ z. absurd (omega arith))
+        (λ n q. rw q (reaches-up (t .parents) (t .sequences) r n j ne o np ∙ reaches-more n (suc n) (parentOf t j) (p .0) (omega arith) (omega arith))))
 
     pub mark-above : (j : ℕ) → Above t r j → mark j ≡ true
     mark-above j here = mark-root
     mark-above j (up k o x) = same? k r
         (λ q. rw q mark-root)
         (λ ne.
-          let op = above-holds t s l r (parentOf t k) x root in
-          mark-parent k ne o (holds-real t (parentOf t k) s op) ∙ mark-above (parentOf t k) x)
+        let op = above-holds t s l r (parentOf t k) x root in
+        mark-parent k ne o (holds-real t (parentOf t k) s op) ∙ mark-above (parentOf t k) x)
 
     pub mark-listed : (j : ℕ) → listed (markSubtree (t .parents) (t .sequences) r) j ≡ mark j
     unfolding markSubtree below
     mark-listed j = rw root (split (mark j)
         (λ m. below-in mark (slotsOf (t .sequences)) j (rw (kids-slots t s) (holds-lt t j (mark-holds j m))) m ∙ sym m)
         (λ m. split (below mark (slotsOf (t .sequences)) j)
-          (λ b. true-not-false {b = mark j} (below-out mark (slotsOf (t .sequences)) j b) m)
-          (λ b. b ∙ sym m)))
+        (λ b. true-not-false {b = mark j} (below-out mark (slotsOf (t .sequences)) j b) m)
+        (λ b. b ∙ sym m)))
 
     -- where removal is not refused, no marked block is active
     pub mark-off : holdsActive t r ≡ false → (j : ℕ) → mark j ≡ true → onChain t j ≡ false

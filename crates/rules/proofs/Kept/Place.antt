@@ -30,12 +30,12 @@ use Rattle.rules.proofs.Kept.EvictHead.{trace, evict-good, victim-some,
 module _ (t : Blocks) (h u : Heads) (k x arriving : ℕ) (previous : List ℕ) (s : Seat h u k x) where
   pub again-seat : Seat h (recomputeHead t u k arriving previous) k x
   again-seat = let b = recompute-seat t u k arriving previous in
-    record {
-      roomy = λ r. b .roomy (s .roomy r);
-      rooms = b .rooms ∙ s .rooms;
-      here = λ l. b .here (rw (s .rooms) l) ∙ s .here l;
-      rest = λ r ne. b .rest r ne ∙ s .rest r ne
-    }
+      record {
+        roomy = λ r. b .roomy (s .roomy r);
+        rooms = b .rooms ∙ s .rooms;
+        here = λ l. b .here (rw (s .rooms) l) ∙ s .here l;
+        rest = λ r ne. b .rest r ne ∙ s .rest r ne;
+      }
 
   pub again-kept : Room h → k < room h → kept (recomputeHead t u k arriving previous) k ≡ located t x
   again-kept r l = recompute-kept t u k arriving previous (s .roomy r) (rw (s .rooms) l) ∙ ap (located t) (s .here l)
@@ -86,16 +86,16 @@ module _ (t : Blocks) (h : Heads) (top x arrival arriving : ℕ) (previous : Lis
       let f = n .good .frame in
       record {
         good = seat-good t h (seated k) top k x C D f s l (n .home) (n .bottom) (λ v _ uv. n .bare v uv)
-          (λ i d ne. (cd i d ne, λ u. true-not-false {b = inUse h k} u free))
-          (λ v _ uv. n .good .anchored v uv)
-          (rw e (anchor-ends t x (f .counts .shape) (f .counts .linked) (n .home)));
+            (λ i d ne. (cd i d ne, λ u. true-not-false {b = inUse h k} u free))
+            (λ v _ uv. n .good .anchored v uv)
+            (rw e (anchor-ends t x (f .counts .shape) (f .counts .linked) (n .home)));
         home = n .home;
         fresh = n .fresh;
         steady = steady-refl NONE t;
         sizes = refl;
         from = λ P px old v uv. same? v k
-          (λ q. rw (q, s .here l) px)
-          (λ ne. rw (seat-tip h (seated k) k x s v ne) (old v (sym (seat-use h (seated k) k x s v ne) ∙ uv)))
+            (λ q. rw (q, s .here l) px)
+            (λ ne. rw (seat-tip h (seated k) k x s v ne) (old v (sym (seat-use h (seated k) k x s v ne) ∙ uv)));
       }
 
   seat-some : (k : ℕ) → firstEmpty (h .tips) ≡ some k → seatHead (record { blocks = t; heads = h }) x arrival arriving previous ≡ record { blocks = t; heads = seated k }
@@ -118,20 +118,20 @@ module _ (t : Blocks) (h : Heads) (top x arrival arriving : ℕ) (previous : Lis
         home = l .0;
         fresh = freed-back t (tipOf h v) u tr x (l .0) .3 ∙ n .fresh;
         bottom = l .1;
-        bare = λ r ur. let c = clear-other h v r ur in rw (seat-tip h (clear h v) v NONE (clear-seat h v) r (c .0)) (n .bare r (c .1))
+        bare = λ r ur. let c = clear-other h v r ur in rw (seat-tip h (clear h v) v NONE (clear-seat h v) r (c .0)) (n .bare r (c .1));
       }
 
 -- the walk before the empty slot is taken
 done-after : (t u : Blocks) (h : Heads) (w : Tables) (top x v : ℕ) (b : Bool) (D : ℕ → Type 0) → Freed t (tipOf h v) u
     → Done u (clear h v) w top x b D → Done t h w top x b D
 done-after t u h w top x v b D tr d = record {
-    good = d .good;
-    home = d .home;
-    fresh = d .fresh;
-    steady = steady-trans NONE t u (w .blocks) (freed-steady NONE t (tipOf h v) u tr) (d .steady);
-    sizes = d .sizes ∙ freed-size t (tipOf h v) u tr;
-    from = λ P px old r ur. d .from P px (λ s us. let c = clear-other h v s us in rw (seat-tip h (clear h v) v NONE (clear-seat h v) s (c .0)) (old s (c .1))) r ur
-  }
+  good = d .good;
+  home = d .home;
+  fresh = d .fresh;
+  steady = steady-trans NONE t u (w .blocks) (freed-steady NONE t (tipOf h v) u tr) (d .steady);
+  sizes = d .sizes ∙ freed-size t (tipOf h v) u tr;
+  from = λ P px old r ur. d .from P px (λ s us. let c = clear-other h v s us in rw (seat-tip h (clear h v) v NONE (clear-seat h v) s (c .0)) (old s (c .1))) r ur;
+}
 
 -- ---- the rule
 
@@ -151,15 +151,15 @@ insert-done t h top x arrival arriving previous b C D cd n =
     let f = n .good .frame in
     let s = f .counts .shape in
     option? (firstEmpty (h .tips))
-      (λ c. option? (victim (t .hashes) (t .sequences) (h .tips) top)
-        (λ e. absurd (victim-there t h top (f .roomy) (f .apart) (λ r u. f .tips r u .0) (λ r l. empty-none h r (f .roomy) c l) e))
-        (λ v e.
-          let w = victim-some (t .hashes) (t .sequences) (h .tips) top v e in
-          let u : Blocks = evictFrom (size t) t (tipOf h v) in
-          rw (room-made t h top v s c e) (done-after t u h (seatHead (record { blocks = u; heads = clear h v }) x arrival arriving previous) top x v b D
-            (trace t h top C (n .good) v (w .0) (w .1))
-            (seat-done u (clear h v) top x arrival arriving previous b C D cd (after t h top x arrival arriving previous b C D cd n v (w .0) (w .1))
-              v (rw (clear-seat h v .rooms) (use-lt h v (w .0))) (clear-here h v)))))
-      (λ k c.
-        let p = empty-some h k (f .roomy) c in
-        rw (room-there t h top k c) (seat-done t h top x arrival arriving previous b C D cd n k (p .0) (p .1)))
+    (λ c. option? (victim (t .hashes) (t .sequences) (h .tips) top)
+    (λ e. absurd (victim-there t h top (f .roomy) (f .apart) (λ r u. f .tips r u .0) (λ r l. empty-none h r (f .roomy) c l) e))
+    (λ v e.
+    let w = victim-some (t .hashes) (t .sequences) (h .tips) top v e in
+    let u : Blocks = evictFrom (size t) t (tipOf h v) in
+    rw (room-made t h top v s c e) (done-after t u h (seatHead (record { blocks = u; heads = clear h v }) x arrival arriving previous) top x v b D
+    (trace t h top C (n .good) v (w .0) (w .1))
+    (seat-done u (clear h v) top x arrival arriving previous b C D cd (after t h top x arrival arriving previous b C D cd n v (w .0) (w .1))
+    v (rw (clear-seat h v .rooms) (use-lt h v (w .0))) (clear-here h v)))))
+    (λ k c.
+    let p = empty-some h k (f .roomy) c in
+    rw (room-there t h top k c) (seat-done t h top x arrival arriving previous b C D cd n k (p .0) (p .1)))

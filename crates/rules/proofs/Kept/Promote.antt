@@ -26,10 +26,10 @@ module _ (t : Blocks) (i v : ℕ) where
   pub flags-but : But t (setFlags t i v) i
   unfolding blockAt
   flags-but = record {
-      shapes = λ s. record { some = s .some; small = s .small; parents = s .parents; counts = s .counts; flagged = simp length-set (s .flagged); hashed = s .hashed };
-      sizes = refl;
-      rest = λ j ne. rw (getD-set-other (t .flags) i j v 0 ne)
-    }
+    shapes = λ s. record { some = s .some; small = s .small; parents = s .parents; counts = s .counts; flagged = simp length-set (s .flagged); hashed = s .hashed };
+    sizes = refl;
+    rest = λ j ne. rw (getD-set-other (t .flags) i j v 0 ne);
+  }
 
 -- flag and status Active
 abbrev pub lit : Blocks → ℕ → ℕ
@@ -49,7 +49,7 @@ module _ (t : Blocks) (i : ℕ) (s : Shape t) (o : holds t i ≡ true) where
       let f = flagsAt (t .flags) i in
       let a = f / 2 * 2 + 1 in
       rw (getD-set-same (t .flags) i (lit t i) 0 (let l = holds-lt t i o in let e = s .flagged in omega arith))
-        (eq-eqb ((a / 8 * 8 + 2 * 2 + a % 2) % 2) 1 (omega arith))
+      (eq-eqb ((a / 8 * 8 + 2 * 2 + a % 2) % 2) 1 (omega arith))
 
   pub lit-other : (j : ℕ) → j ≢ i → onChain (setFlags t i (lit t i)) j ≡ onChain t j
   lit-other j ne = but-chain t (setFlags t i (lit t i)) i (flags-but t i (lit t i)) j ne
@@ -74,16 +74,16 @@ promote-frame t h top i g o acc =
     let u : Blocks = setFlags t i (lit t i) in
     let b = flags-but t i (lit t i) in
     let was : (j : ℕ) → onChain u j ≡ false → onChain t j ≡ false = λ j a.
-      let ne : j ≢ i = λ q. true-not-false {b = onChain u j} (rw q (lit-here t i s o)) a in
-      sym (lit-other t i s o j ne) ∙ a in
+    let ne : j ≢ i = λ q. true-not-false {b = onChain u j} (rw q (lit-here t i s o)) a in
+    sym (lit-other t i s o j ne) ∙ a in
     let up : (j : ℕ) → onChain t j ≡ true → onChain u j ≡ true = λ j a. same? j i
-      (λ q. rw q (lit-here t i s o))
-      (λ ne. lit-other t i s o j ne ∙ a) in
+    (λ q. rw q (lit-here t i s o))
+    (λ ne. lit-other t i s o j ne ∙ a) in
     record {
       counts = record {
         shape = b .shapes s;
         linked = g .counts .linked;
-        counted = λ j oj a. rw flags-kids (g .counts .counted j oj (was j a))
+        counted = λ j oj a. rw flags-kids (g .counts .counted j oj (was j a));
       };
       voids = but-voids t u i b o (g .voids);
       roomy = g .roomy;
@@ -92,10 +92,11 @@ promote-frame t h top i g o acc =
       apart = g .apart;
       covered = λ j _ oj a z. g .covered j tt oj (was j a) (rw flags-kids at z);
       chained = λ j oj a ne.
-        let aj : onChain t j ≡ true = sym (lit-other t i s o j ne) ∙ a in
-        same? j top
+          let aj : onChain t j ≡ true = sym (lit-other t i s o j ne) ∙ a in
+          same? j top
           (λ q. elim acc [
-            inl e ↦ absurd (none-active (suc (height t j)) t h j (subst (λ (k : ℕ). Frame t h k All) e g) oj aj (omega arith))
-          | inr e ↦ (i, o, lit-here t i s o, e ∙ sym q) ])
-          (λ nt. let (c, oc, ac, pc) = g .chained j oj aj nt in (c, oc, up c ac, pc))
+            | inl e ↦ absurd (none-active (suc (height t j)) t h j (subst (λ (k : ℕ). Frame t h k All) e g) oj aj (omega arith))
+            | inr e ↦ (i, o, lit-here t i s o, e ∙ sym q)
+          ])
+          (λ nt. let (c, oc, ac, pc) = g .chained j oj aj nt in (c, oc, up c ac, pc));
     }

@@ -58,37 +58,39 @@ module _ (s : State) (i : ℕ) (z : Sound s) (o : holds (blocksOf s) i ≡ true)
   module _ (acc : (s .activeHead ≡ NONE) ⊎ (parent s i ≡ s .activeHead)) where
     lift : (j : ℕ) → OnLine s j → OnLine u j
     lift j (start a) = elim acc [
-        inl e ↦ true-not-false {b = holds t NONE} (rw e at (ne-holds t (s .activeHead) (z .line (s .activeHead) a .0))) (none-empty t sh)
-      | inr e ↦ rw (← e) (down i (start here) (rw e (up (s .activeHead) a))) ]
+      | inl e ↦ true-not-false {b = holds t NONE} (rw e at (ne-holds t (s .activeHead) (z .line (s .activeHead) a .0))) (none-empty t sh)
+      | inr e ↦ rw (← e) (down i (start here) (rw e (up (s .activeHead) a)))
+    ]
     lift j (down k l a) = down k (lift k l) (up (parent s k) a)
 
     pub promoted-went : Went (promoteCall i) s (answering u done)
     promoted-went = record {
-        sound = good-sound u (recomputed b i All (headsOf s) (promote-frame t (headsOf s) (s .activeHead) i f o acc))
+      sound = good-sound u (recomputed b i All (headsOf s) (promote-frame t (headsOf s) (s .activeHead) i f o acc))
           (λ j a. same? j i
-            (λ q. rw q (holds-ne t i o, start here))
-            (λ ne. let w = z .line j (was j ne a) in (w .0, lift j (w .1))))
+          (λ q. rw q (holds-ne t i o, start here))
+          (λ ne. let w = z .line j (was j ne a) in (w .0, lift j (w .1))))
           (inr here)
           (z .names);
-        stays = λ j a. (up j a, refl);
-        new = λ j e _. let q : i ≡ j = cc in rw (← q) here;
-        only = λ j a. same? j i
+      stays = λ j a. (up j a, refl);
+      new = λ j e _. let q : i ≡ j = cc in rw (← q) here;
+      only = λ j a. same? j i
           (λ q. inr (ap promoteCall (sym q), λ n e. let c : _≡_ {A = ℕ} 0 1 = cc in omega arith))
           (λ ne. inl (was j ne a));
-        given = λ j name-was oj h. h oj
-      }
+      given = λ j name-was oj h. h oj;
+    }
 
 module _ (s : State) (i : ℕ) (z : Sound s) where
   next-is : isNext s i ≡ true → (s .activeHead ≡ NONE) ⊎ (parent s i ≡ s .activeHead)
   unfolding isNext
   next-is e = elim (or-true (eqb (s .activeHead) NONE) (eqb (parentOf (blocksOf s) i) (s .activeHead)) e) [
-      inl k ↦ inl (eqb-true (s .activeHead) NONE k)
-    | inr k ↦ inr (eqb-true (parentOf (blocksOf s) i) (s .activeHead) k) ]
+    | inl k ↦ inl (eqb-true (s .activeHead) NONE k)
+    | inr k ↦ inr (eqb-true (parentOf (blocksOf s) i) (s .activeHead) k)
+  ]
 
   pub went-promote : Went (promoteCall i) s (promote s i)
   unfolding promote
   went-promote = rw (z .shape) (split (holds (blocksOf s) i)
       (λ o. split (isNext s i)
-        (λ e. rw (o, e, promoted-is s i z o) (promoted-went s i z o (next-is e)))
-        (λ e. rw (o, e) (turned-away (promoteCall i) s 8 z)))
+      (λ e. rw (o, e, promoted-is s i z o) (promoted-went s i z o (next-is e)))
+      (λ e. rw (o, e) (turned-away (promoteCall i) s 8 z)))
       (λ o. rw o (turned-away (promoteCall i) s 3 z)))

@@ -40,9 +40,9 @@ recounted-good t h top C g few =
         tips = λ k u. let p = f .tips k u in (p .0, rw (recounted-kids t s) (p .1));
         apart = f .apart;
         covered = λ i c o a z. f .covered i c o a (rw (recounted-kids t s) at z);
-        chained = f .chained
+        chained = f .chained;
       };
-      anchored = λ k u. ends-same t (recounted t) (λ _. (refl, refl, refl)) (tipOf h k) (kept h k) (g .anchored k u)
+      anchored = λ k u. ends-same t (recounted t) (λ _. (refl, refl, refl)) (tipOf h k) (kept h k) (g .anchored k u);
     }
 
 recounted-steady : (t : Blocks) → Steady NONE t (recounted t)
@@ -74,34 +74,39 @@ module _ (arrival top k : ℕ) (w : Tables) where
   unfolding childless
   once-upto t p = let f = p .good .frame in split leaf?
       (λ e.
-        let c = and-true (holds (w .blocks) k) (childless (w .blocks .parents) (w .blocks .sequences) k) e in
-        let d = insert-done (w .blocks) (w .heads) top k arrival NONE zeroHash (onChain (w .blocks) k) (λ i. i < k) (λ i. i < suc k) (λ i l ne. omega arith) (record {
-          good = p .good;
-          home = c .0;
-          fresh = refl;
-          bottom = sym (kids-are (w .blocks) (f .counts .shape) k) ∙ eqb-true (children (w .blocks .parents) (w .blocks .sequences) k) 0 (c .1);
-          bare = λ r u q. absurd (omega (arith, p .lower r u))
-        }) in
-        rw (turn-yes e) (record {
-          good = d .good;
-          lower = d .from (λ i. i < suc k) (omega arith) (λ r u. omega (arith, p .lower r u));
-          steady = steady-trans NONE t (w .blocks) ((insertHead w k arrival NONE zeroHash top) .blocks) (p .steady) (d .steady);
-          sizes = d .sizes ∙ p .sizes
-        }))
+      let c = and-true (holds (w .blocks) k) (childless (w .blocks .parents) (w .blocks .sequences) k) e in
+      let d = insert-done (w .blocks) (w .heads) top k arrival NONE zeroHash (onChain (w .blocks) k) (λ i. i < k) (λ i. i < suc k) (λ i l ne. omega arith) (record {
+        good = p .good;
+        home = c .0;
+        fresh = refl;
+        bottom = sym (kids-are (w .blocks) (f .counts .shape) k) ∙ eqb-true (children (w .blocks .parents) (w .blocks .sequences) k) 0 (c .1);
+        bare = λ r u q. absurd (omega (arith, p .lower r u));
+      }) in
+      rw (turn-yes e) (record {
+        good = d .good;
+        lower = d .from (λ i. i < suc k) (omega arith) (λ r u. omega (arith, p .lower r u));
+        steady = steady-trans NONE t (w .blocks) ((insertHead w k arrival NONE zeroHash top) .blocks) (p .steady) (d .steady);
+        sizes = d .sizes ∙ p .sizes;
+      }))
       (λ e. rw (turn-no e) (record {
         good = record {
           frame = record {
-            counts = f .counts; voids = f .voids; roomy = f .roomy; blanks = f .blanks; tips = f .tips; apart = f .apart;
+            counts = f .counts;
+            voids = f .voids;
+            roomy = f .roomy;
+            blanks = f .blanks;
+            tips = f .tips;
+            apart = f .apart;
             covered = λ i l o a z. same? i k
-              (λ q. true-not-false {b = leaf?} (rw (rw q at o, kids-are (w .blocks) (f .counts .shape) k, eq-eqb (childrenOf (w .blocks) k) 0 (rw q at z)) refl) e)
-              (λ ne. f .covered i (omega arith) o a z);
-            chained = f .chained
+                (λ q. true-not-false {b = leaf?} (rw (rw q at o, kids-are (w .blocks) (f .counts .shape) k, eq-eqb (childrenOf (w .blocks) k) 0 (rw q at z)) refl) e)
+                (λ ne. f .covered i (omega arith) o a z);
+            chained = f .chained;
           };
-          anchored = p .good .anchored
+          anchored = p .good .anchored;
         };
         lower = λ s u. omega (arith, p .lower s u);
         steady = p .steady;
-        sizes = p .sizes
+        sizes = p .sizes;
       }))
 
 all-upto : (arrival top : ℕ) (t : Blocks) (w : Tables) → Upto t top 0 w → (k : ℕ) → Upto t top k (inOrder (rebuildAt arrival top) k w)
@@ -127,13 +132,13 @@ module _ (t : Blocks) (h : Heads) (top arrival : ℕ) (g : Good t h top All) whe
             tips = λ k u. absurd (none-used m k u);
             apart = λ k _ u _ _. absurd (none-used m k u);
             covered = λ i l _ _ _. absurd (omega arith);
-            chained = f .chained
+            chained = f .chained;
           };
-          anchored = λ k u. absurd (none-used m k u)
+          anchored = λ k u. absurd (none-used m k u);
         };
         lower = λ k u. absurd (none-used m k u);
         steady = recounted-steady t;
-        sizes = refl
+        sizes = refl;
       }
 
   pub restart-done : Good (restarted (record { blocks = t; heads = h }) arrival top .blocks) (restarted (record { blocks = t; heads = h }) arrival top .heads) top All
@@ -146,11 +151,17 @@ module _ (t : Blocks) (h : Heads) (top arrival : ℕ) (g : Good t h top All) whe
       let f = p .good .frame in
       let full : Good (w .blocks) (w .heads) top All = record {
         frame = record {
-          counts = f .counts; voids = f .voids; roomy = f .roomy; blanks = f .blanks; tips = f .tips; apart = f .apart;
+          counts = f .counts;
+          voids = f .voids;
+          roomy = f .roomy;
+          blanks = f .blanks;
+          tips = f .tips;
+          apart = f .apart;
           covered = λ i _ o a z. f .covered i (let l = holds-lt (w .blocks) i o in let e = p .sizes in let k = kids-slots t (g .frame .counts .shape) in omega arith) o a z;
-          chained = f .chained
+          chained = f .chained;
         };
-        anchored = p .good .anchored
-      } in
-      (recounted-good (w .blocks) (w .heads) top All full (few-kids (w .blocks) (w .heads) top (full .frame)),
-        steady-trans NONE t (w .blocks) (recounted (w .blocks)) (p .steady) (recounted-steady (w .blocks)))
+        anchored = p .good .anchored;
+      } in (
+        recounted-good (w .blocks) (w .heads) top All full (few-kids (w .blocks) (w .heads) top (full .frame)),
+        steady-trans NONE t (w .blocks) (recounted (w .blocks)) (p .steady) (recounted-steady (w .blocks)),
+      )

@@ -43,4 +43,4 @@ module _ (t : Blocks) (top : ℕ) (C : ℕ → Type 0) where
   recomputed h g =
       let e = head-slots h (g .roomy) in
       rw (← all-redone t h (slotsOf (h .tips)))
-        (loop-good t top C (redo t) turn h g (λ _. Unit {0}) (λ _ _. inr tt) (λ k u f o _. yes k u f o) (slotsOf (h .tips)) (omega arith))
+      (loop-good t top C (redo t) turn h g (λ _. Unit {0}) (λ _ _. inr tt) (λ k u f o _. yes k u f o) (slotsOf (h .tips)) (omega arith))

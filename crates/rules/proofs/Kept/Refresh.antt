@@ -34,8 +34,8 @@ module _ (t : Blocks) (top x : ℕ) (C : ℕ → Type 0) (hash previous : List �
   unfolding recomputeMissed misses
   missed-turn k h g = split (misses h hash k)
       (λ e.
-        let c = and-true (stored (h .tips) (h .connected) k) (sameHash (hashAt (h .missing) k) hash) e in
-        rw e (inr (redone t h top C g k x previous (stored-use h k (c .0)))))
+      let c = and-true (stored (h .tips) (h .connected) k) (sameHash (hashAt (h .missing) k) hash) e in
+      rw e (inr (redone t h top C g k x previous (stored-use h k (c .0)))))
       (λ e. rw e (inl refl))
 
 -- ---- the added refresh
@@ -52,9 +52,9 @@ module _ (t : Blocks) (top : ℕ) (C : ℕ → Type 0) (k : ℕ) (h : Heads) (g 
   refresh-is u = option? (slotOfHead (h .tips) (tipOf h k))
       (λ n. absurd (head-none h (tipOf h k) k (g .roomy) n u refl))
       (λ j e.
-        let w = head-some h (tipOf h k) j e in
-        let q : j ≡ k = g .apart j k (w .0) u (w .1) in
-        rw (e, refreshHead) (rw q refl))
+      let w = head-some h (tipOf h k) j e in
+      let q : j ≡ k = g .apart j k (w .0) u (w .1) in
+      rw (e, refreshHead) (rw q refl))
 
   yes : outgrown t h k ≡ true → Redone t k h (refreshOutgrown t k h)
   unfolding refreshOutgrown outgrown

@@ -43,12 +43,12 @@ pub record Same (t u : Blocks) (j : ℕ) : Type 0 where
 same-block : (t u : Blocks) (j : ℕ) → blockAt u j ≡ blockAt t j → Same t u j
 unfolding blockAt occupied active
 same-block t u j e = record {
-    hold = ap (λ (x : Block). not (eqb (x .sequence .0) NONE)) e;
-    seq = ap (λ (x : Block). x .sequence .0) e;
-    parent = ap (λ (x : Block). x .parent .0) e;
-    hash = ap (λ (x : Block). x .hash) e;
-    chain = ap (λ (x : Block). eqb (x .flags % 2) 1) e
-  }
+  hold = ap (λ (x : Block). not (eqb (x .sequence .0) NONE)) e;
+  seq = ap (λ (x : Block). x .sequence .0) e;
+  parent = ap (λ (x : Block). x .parent .0) e;
+  hash = ap (λ (x : Block). x .hash) e;
+  chain = ap (λ (x : Block). eqb (x .flags % 2) 1) e;
+}
 
 module _ (t : Blocks) (h : Heads) (top r : ℕ) (g : Good t h top All) (root : holds t r ≡ true) (free : holdsActive t r ≡ false) where
   f : Frame t h top All
@@ -98,12 +98,12 @@ module _ (t : Blocks) (h : Heads) (top r : ℕ) (g : Good t h top All) (root : h
       let (m, ot) = there j o in
       let p = stay j m in
       rw (p .parent, p .seq) (same? (parentOf t j) NONE
-        (λ e. inl e)
-        (λ ne.
-          let q = parent-there t j l ot ne in
-          let nr : j ≢ r = λ e. true-not-false {b = M j} (rw e (mark-root t r s l root)) m in
-          let k = stay (parentOf t j) (sym (mark-parent t r s l root j nr ot ne) ∙ m) in
-          inr (k .hold ∙ q .0, rw (k .seq) (q .1))))
+      (λ e. inl e)
+      (λ ne.
+      let q = parent-there t j l ot ne in
+      let nr : j ≢ r = λ e. true-not-false {b = M j} (rw e (mark-root t r s l root)) m in
+      let k = stay (parentOf t j) (sym (mark-parent t r s l root j nr ot ne) ∙ m) in
+      inr (k .hold ∙ q .0, rw (k .seq) (q .1))))
 
   fewer : (k : ℕ) → childrenOf u k ≤ childrenOf t k
   unfolding childrenOf occupied
@@ -118,10 +118,10 @@ module _ (t : Blocks) (h : Heads) (top r : ℕ) (g : Good t h top All) (root : h
   lost-last i o z nz = some-child t i (omega arith) (λ c oc pc.
       let (mi, oi) = there i o in
       split (M c)
-        (λ mc. same? c r
-          (λ q. rw q at pc)
-          (λ ne. true-not-false {b = M i} (rw pc at (sym (mark-parent t r s l root c ne oc (rw pc (holds-real t i s oi))) ∙ mc)) mi))
-        (λ mc. let k = stay c mc in absurd (table.childless u i c z (k .hold ∙ oc) (k .parent ∙ pc))))
+      (λ mc. same? c r
+      (λ q. rw q at pc)
+      (λ ne. true-not-false {b = M i} (rw pc at (sym (mark-parent t r s l root c ne oc (rw pc (holds-real t i s oi))) ∙ mc)) mi))
+      (λ mc. let k = stay c mc in absurd (table.childless u i c z (k .hold ∙ oc) (k .parent ∙ pc))))
 
   left-chained : Chained u top
   left-chained i o a ne =
@@ -157,11 +157,13 @@ module _ (t : Blocks) (h : Heads) (top r : ℕ) (g : Good t h top All) (root : h
   unfolding takesOver childless
   over e =
       let c = and-true (holds u p && not (isSome (slotOfHead (h .tips) p))) (eqb (children (u .parents) (u .sequences) p) 0) e in
-      let d = and-true (holds u p) (not (isSome (slotOfHead (h .tips) p))) (c .0) in
-      (d .0, option? (slotOfHead (h .tips) p)
-        (λ n. n)
-        (λ k q. true-not-false {b = isSome (slotOfHead (h .tips) p)} (rw q refl) (not-true (isSome (slotOfHead (h .tips) p)) (d .1))),
-        sym (kids-are u su p) ∙ eqb-true (children (u .parents) (u .sequences) p) 0 (c .1))
+      let d = and-true (holds u p) (not (isSome (slotOfHead (h .tips) p))) (c .0) in (
+        d .0,
+        option? (slotOfHead (h .tips) p)
+            (λ n. n)
+            (λ k q. true-not-false {b = isSome (slotOfHead (h .tips) p)} (rw q refl) (not-true (isSome (slotOfHead (h .tips) p)) (d .1))),
+        sym (kids-are u su p) ∙ eqb-true (children (u .parents) (u .sequences) p) 0 (c .1),
+      )
 
   takes : holds u p ≡ true → slotOfHead (h .tips) p ≡ none → childrenOf u p ≡ 0 → takesOver v p ≡ true
   unfolding takesOver childless
@@ -178,10 +180,10 @@ module _ (t : Blocks) (h : Heads) (top r : ℕ) (g : Good t h top All) (root : h
   heir-some : (k : ℕ) → isAt moving k ≡ true → (takesOver v p ≡ true) × (headFreed deleted (h .tips) k ≡ true)
   heir-some k a = split (takesOver v p)
       (λ e. option? (lowest (headFreed deleted (h .tips)) (slotsOf (h .tips)))
-        (λ n. true-not-false {b = isAt moving k} a (rw (heir-yes e, n) refl))
-        (λ i n.
-          let q : i ≡ k = eqb-true i k (rw (heir-yes e, n) at a) in
-          (e, rw (← q) (lowest-holds (headFreed deleted (h .tips)) (slotsOf (h .tips)) i n .1))))
+      (λ n. true-not-false {b = isAt moving k} a (rw (heir-yes e, n) refl))
+      (λ i n.
+      let q : i ≡ k = eqb-true i k (rw (heir-yes e, n) at a) in
+      (e, rw (← q) (lowest-holds (headFreed deleted (h .tips)) (slotsOf (h .tips)) i n .1))))
       (λ e. true-not-false {b = isAt moving k} a (rw (heir-no e) refl))
 
   freed-tip : (k : ℕ) → headFreed deleted (h .tips) k ≡ true → (inUse h k ≡ true) × (M (tipOf h k) ≡ true)
@@ -236,25 +238,26 @@ module _ (t : Blocks) (h : Heads) (top r : ℕ) (g : Good t h top All) (root : h
 
   tips-left : (k : ℕ) → inUse h2 k ≡ true → (holds u (tipOf h2 k) ≡ true) × (childrenOf u (tipOf h2 k) ≡ 0)
   tips-left k uk = elim (fate k uk) [
-      inl c ↦ let o = over (heir-some k (c .0) .0) in rw (c .1) (o .0, o .2)
+    | inl c ↦ let o = over (heir-some k (c .0) .0) in rw (c .1) (o .0, o .2)
     | inr c ↦
         let q = f .tips k (c .0) in
         let n = fewer (tipOf h k) in
         let z = q .1 in
-        rw (c .1) (stay (tipOf h k) (c .2) .hold ∙ q .0, omega arith) ]
+        rw (c .1) (stay (tipOf h k) (c .2) .hold ∙ q .0, omega arith)
+  ]
 
   -- the heir stands on the root's parent
   heir-there : takesOver v p ≡ true → (k : ℕ) × (inUse h2 k ≡ true) × (tipOf h2 k ≡ p)
   unfolding headFreed
   heir-there e = option? (lowest (headFreed deleted (h .tips)) (slotsOf (h .tips)))
       (λ n.
-        let (k, uk, m) = some-lost in
-        absurd (lowest-found (headFreed deleted (h .tips)) (slotsOf (h .tips)) k (rw (head-slots h (f .roomy)) (use-lt h k uk))
-          (and-both (inUse h k) (listed deleted (tipOf h k)) uk (listed-mark (tipOf h k) ∙ m)) n))
+      let (k, uk, m) = some-lost in
+      absurd (lowest-found (headFreed deleted (h .tips)) (slotsOf (h .tips)) k (rw (head-slots h (f .roomy)) (use-lt h k uk))
+      (and-both (inUse h k) (listed deleted (tipOf h k)) uk (listed-mark (tipOf h k) ∙ m)) n))
       (λ k n.
-        let a : isAt moving k ≡ true = rw (heir-yes e, n) (eq-eqb k k refl) in
-        let b = lowest-holds (headFreed deleted (h .tips)) (slotsOf (h .tips)) k n in
-        go k a (cell k (rw (head-slots h (f .roomy)) at (b .0))))
+      let a : isAt moving k ≡ true = rw (heir-yes e, n) (eq-eqb k k refl) in
+      let b = lowest-holds (headFreed deleted (h .tips)) (slotsOf (h .tips)) k n in
+      go k a (cell k (rw (head-slots h (f .roomy)) at (b .0))))
     where
       go : (k : ℕ) → isAt moving k ≡ true → Cell deleted moving p h h2 k → (k : ℕ) × (inUse h2 k ≡ true) × (tipOf h2 k ≡ p)
       go k a (moved b c) = (k, ne-use h2 k (rw c (holds-real u p su (over e .0))), c)
@@ -265,17 +268,17 @@ module _ (t : Blocks) (h : Heads) (top r : ℕ) (g : Good t h top All) (root : h
   covered-left i o a z =
       let (m, oi) = there i o in
       zero? (childrenOf t i)
-        (λ c.
-          let (k, uk, e) = f .covered i tt oi (sym (stay i m .chain) ∙ a) c in
-          let q = stands k uk (rw e m) in
-          (k, q .0, q .1 ∙ e))
-        (λ n c.
-          let e : parentOf t r ≡ i = lost-last i o z (omega arith) in
-          let none-there : slotOfHead (h .tips) p ≡ none = option? (slotOfHead (h .tips) p)
-            (λ n. n)
-            (λ k q. let b = head-some h p k q in let y = rw (b .1, e) at (f .tips k (b .0) .1) in absurd (omega arith)) in
-          let (k, uk, q) = heir-there (takes (rw e o) none-there (rw e z)) in
-          (k, uk, q ∙ e))
+      (λ c.
+      let (k, uk, e) = f .covered i tt oi (sym (stay i m .chain) ∙ a) c in
+      let q = stands k uk (rw e m) in
+      (k, q .0, q .1 ∙ e))
+      (λ n c.
+      let e : parentOf t r ≡ i = lost-last i o z (omega arith) in
+      let none-there : slotOfHead (h .tips) p ≡ none = option? (slotOfHead (h .tips) p)
+      (λ n. n)
+      (λ k q. let b = head-some h p k q in let y = rw (b .1, e) at (f .tips k (b .0) .1) in absurd (omega arith)) in
+      let (k, uk, q) = heir-there (takes (rw e o) none-there (rw e z)) in
+      (k, uk, q ∙ e))
 
   apart-left : (j k : ℕ) → inUse h2 j ≡ true → inUse h2 k ≡ true → tipOf h2 j ≡ tipOf h2 k → j ≡ k
   apart-left j k uj uk q = go (fate j uj) (fate k uk)
@@ -310,27 +313,27 @@ module _ (t : Blocks) (h : Heads) (top r : ℕ) (g : Good t h top All) (root : h
 
   final : Frame (recounted u) h2 top All
   final = record {
-      counts = recounted-kept u su left-linked (λ i o.
+    counts = recounted-kept u su left-linked (λ i o.
         let (m, oi) = there i o in
         let n = fewer i in
         omega (arith, f .roomy .few, children-bound t h top All f (λ _. tt) i (holds-real t i s oi)));
-      voids = recounted-voids u su (w .voids s (f .voids));
-      roomy = dr .roomy (f .roomy);
-      blanks = blanks-left;
-      tips = λ k uk. let q = tips-left k uk in (q .0, rw (recounted-kids u su) (q .1));
-      apart = apart-left;
-      covered = λ i _ o a z. covered-left i o a (rw (recounted-kids u su) at z);
-      chained = left-chained
-    }
+    voids = recounted-voids u su (w .voids s (f .voids));
+    roomy = dr .roomy (f .roomy);
+    blanks = blanks-left;
+    tips = λ k uk. let q = tips-left k uk in (q .0, rw (recounted-kids u su) (q .1));
+    apart = apart-left;
+    covered = λ i _ o a z. covered-left i o a (rw (recounted-kids u su) at z);
+    chained = left-chained;
+  }
 
   steady-left : Steady NONE t (recounted u)
   steady-left = record {
-      keeps = λ i o a.
+    keeps = λ i o a.
         let k = stay i (split (M i) (λ m. true-not-false {b = onChain t i} a (off i m)) (λ e. e)) in
         (k .hold ∙ o, k .chain ∙ a, λ _. k .parent);
-      back = λ i o a. let (m, oi) = there i o in (oi, sym (stay i m .chain) ∙ a);
-      same = λ i _ o. let (m, oi) = there i o in let k = stay i m in (oi, k .seq, k .hash)
-    }
+    back = λ i o a. let (m, oi) = there i o in (oi, sym (stay i m .chain) ∙ a);
+    same = λ i _ o. let (m, oi) = there i o in let k = stay i m in (oi, k .seq, k .hash);
+  }
 
   pub remove-done : Good (removed (record { blocks = t; heads = h }) r .blocks) (removed (record { blocks = t; heads = h }) r .heads) top All
       × Steady NONE t (removed (record { blocks = t; heads = h }) r .blocks)

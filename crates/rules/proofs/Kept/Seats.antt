@@ -100,11 +100,11 @@ module _ (h u : Heads) (k x : ℕ) (s : Seat h u k x) where
 
 pub seat-trans : (h u v : Heads) (k x y : ℕ) → Seat h u k x → Seat u v k y → Seat h v k y
 seat-trans h u v k x y a b = record {
-    roomy = λ r. b .roomy (a .roomy r);
-    rooms = b .rooms ∙ a .rooms;
-    here = λ l. b .here (rw (a .rooms) l);
-    rest = λ r ne. b .rest r ne ∙ a .rest r ne
-  }
+  roomy = λ r. b .roomy (a .roomy r);
+  rooms = b .rooms ∙ a .rooms;
+  here = λ l. b .here (rw (a .rooms) l);
+  rest = λ r ne. b .rest r ne ∙ a .rest r ne;
+}
 
 -- empty heads are the fixed record
 abbrev pub Blanks : Heads → Type 0
@@ -121,27 +121,37 @@ module _ (h : Heads) (k : ℕ) (head : Head) (len : length (head .missing) ≡ h
   pub put-seat : Seat h (putHead h k head) k (head .tip .0)
   unfolding putHead headAt
   put-seat = record {
-      roomy = λ r. record {
-        two = simp length-set (r .two);
-        few = simp length-set (r .few);
-        tailed = simp length-set (r .tailed);
-        missed = rw (put-hash-length (h .missing) (head .missing) k len) (simp length-set (r .missed));
-        asked = simp length-set (r .asked);
-        arrived = simp length-set (r .arrived);
-        flagged = simp length-set (r .flagged)
-      };
-      rooms = length-set (h .tips) k (head .tip .0);
-      here = λ l. getD-set-same (h .tips) k (head .tip .0) NONE l;
-      rest = λ r ne. rw (getD-set-other (h .tips) k r (head .tip .0) NONE ne, getD-set-other (h .tails) k r (head .tail .0) NONE ne,
-        put-hash-other (h .missing) (head .missing) k len r ne, getD-set-other (h .requested) k r (head .requested) 0 ne,
-        getD-set-other (h .arrivals) k r (head .arrival) 0 ne, getD-set-other (h .connected) k r (head .connected) 0 ne)
-    }
+    roomy = λ r. record {
+      two = simp length-set (r .two);
+      few = simp length-set (r .few);
+      tailed = simp length-set (r .tailed);
+      missed = rw (put-hash-length (h .missing) (head .missing) k len) (simp length-set (r .missed));
+      asked = simp length-set (r .asked);
+      arrived = simp length-set (r .arrived);
+      flagged = simp length-set (r .flagged);
+    };
+    rooms = length-set (h .tips) k (head .tip .0);
+    here = λ l. getD-set-same (h .tips) k (head .tip .0) NONE l;
+    rest = λ r ne. rw (
+      getD-set-other (h .tips) k r (head .tip .0) NONE ne,
+      getD-set-other (h .tails) k r (head .tail .0) NONE ne,
+      put-hash-other (h .missing) (head .missing) k len r ne,
+      getD-set-other (h .requested) k r (head .requested) 0 ne,
+      getD-set-other (h .arrivals) k r (head .arrival) 0 ne,
+      getD-set-other (h .connected) k r (head .connected) 0 ne,
+    );
+  }
 
   pub put-head : Room h → k < room h → headAt (putHead h k head) k ≡ head
   unfolding putHead headAt
-  put-head r l = rw (getD-set-same (h .tips) k (head .tip .0) NONE l, getD-set-same (h .tails) k (head .tail .0) NONE (omega (arith, r .tailed)),
-      put-hash-here (h .missing) (head .missing) k len (omega (arith, r .missed)), getD-set-same (h .requested) k (head .requested) 0 (omega (arith, r .asked)),
-      getD-set-same (h .arrivals) k (head .arrival) 0 (omega (arith, r .arrived)), getD-set-same (h .connected) k (head .connected) 0 (omega (arith, r .flagged)))
+  put-head r l = rw (
+    getD-set-same (h .tips) k (head .tip .0) NONE l,
+    getD-set-same (h .tails) k (head .tail .0) NONE (omega (arith, r .tailed)),
+    put-hash-here (h .missing) (head .missing) k len (omega (arith, r .missed)),
+    getD-set-same (h .requested) k (head .requested) 0 (omega (arith, r .asked)),
+    getD-set-same (h .arrivals) k (head .arrival) 0 (omega (arith, r .arrived)),
+    getD-set-same (h .connected) k (head .connected) 0 (omega (arith, r .flagged)),
+  )
 
 abbrev pub clear : Heads → ℕ → Heads
 clear h k = putHead h k emptyHead
@@ -171,21 +181,28 @@ module _ (h : Heads) (k x : ℕ) where
   pub tip-seat : Seat h (withTips h (set (h .tips) k x)) k x
   unfolding headAt
   tip-seat = record {
-      roomy = λ r. record { two = simp length-set (r .two); few = simp length-set (r .few); tailed = simp length-set (r .tailed); missed = simp length-set (r .missed);
-        asked = simp length-set (r .asked); arrived = simp length-set (r .arrived); flagged = simp length-set (r .flagged) };
-      rooms = length-set (h .tips) k x;
-      here = λ l. getD-set-same (h .tips) k x NONE l;
-      rest = λ r ne. rw (getD-set-other (h .tips) k r x NONE ne)
-    }
+    roomy = λ r. record {
+      two = simp length-set (r .two);
+      few = simp length-set (r .few);
+      tailed = simp length-set (r .tailed);
+      missed = simp length-set (r .missed);
+      asked = simp length-set (r .asked);
+      arrived = simp length-set (r .arrived);
+      flagged = simp length-set (r .flagged);
+    };
+    rooms = length-set (h .tips) k x;
+    here = λ l. getD-set-same (h .tips) k x NONE l;
+    rest = λ r ne. rw (getD-set-other (h .tips) k r x NONE ne);
+  }
 
   pub arrival-seat : Seat h (withArrivals h (set (h .arrivals) k x)) k (tipOf h k)
   unfolding headAt
   arrival-seat = record {
-      roomy = λ r. record { two = r .two; few = r .few; tailed = r .tailed; missed = r .missed; asked = r .asked; arrived = simp length-set (r .arrived); flagged = r .flagged };
-      rooms = refl;
-      here = λ _. refl;
-      rest = λ r ne. rw (getD-set-other (h .arrivals) k r x 0 ne)
-    }
+    roomy = λ r. record { two = r .two; few = r .few; tailed = r .tailed; missed = r .missed; asked = r .asked; arrived = simp length-set (r .arrived); flagged = r .flagged };
+    rooms = refl;
+    here = λ _. refl;
+    rest = λ r ne. rw (getD-set-other (h .arrivals) k r x 0 ne);
+  }
 
 -- ---- the caches of a head
 
@@ -201,25 +218,46 @@ cached h k a arriving previous = withCaches h (keep (h .tips) (caches h) k a arr
 cached-seat : (h : Heads) (k : ℕ) (a : Anchor) (arriving : ℕ) (previous : List ℕ) → Seat h (cached h k a arriving previous) k (tipOf h k)
 unfolding keep headAt
 cached-seat h k (connection at) arriving previous = record {
-    roomy = λ r. record { two = r .two; few = r .few; tailed = simp length-set (r .tailed); missed = rw (put-hash-length (h .missing) zeroHash k zero-length) (r .missed);
-      asked = simp length-set (r .asked); arrived = r .arrived; flagged = simp length-set (r .flagged) };
-    rooms = refl;
-    here = λ _. refl;
-    rest = λ r ne. rw (getD-set-other (h .tails) k r at NONE ne, put-hash-other (h .missing) zeroHash k zero-length r ne,
-      getD-set-other (h .requested) k r 0 0 ne, getD-set-other (h .connected) k r (withBit0 (getD (h .connected) k 0) true) 0 ne)
-  }
+  roomy = λ r. record {
+    two = r .two;
+    few = r .few;
+    tailed = simp length-set (r .tailed);
+    missed = rw (put-hash-length (h .missing) zeroHash k zero-length) (r .missed);
+    asked = simp length-set (r .asked);
+    arrived = r .arrived;
+    flagged = simp length-set (r .flagged);
+  };
+  rooms = refl;
+  here = λ _. refl;
+  rest = λ r ne. rw (
+    getD-set-other (h .tails) k r at NONE ne,
+    put-hash-other (h .missing) zeroHash k zero-length r ne,
+    getD-set-other (h .requested) k r 0 0 ne,
+    getD-set-other (h .connected) k r (withBit0 (getD (h .connected) k 0) true) 0 ne,
+  );
+}
 cached-seat h k (tail at) arriving previous =
     let tails = set (h .tails) k at in
     let connected = set (h .connected) k (withBit0 (getD (h .connected) k 0) false) in
     let hash = hashAt (missingPart previous (h .missing) at arriving (knowing (h .tips) tails connected at k)) 0 in
     let len : length hash ≡ hashLength = hash-length (missingPart previous (h .missing) at arriving (knowing (h .tips) tails connected at k)) 0 in
     record {
-      roomy = λ r. record { two = r .two; few = r .few; tailed = simp length-set (r .tailed); missed = rw (put-hash-length (h .missing) hash k len) (r .missed);
-        asked = r .asked; arrived = r .arrived; flagged = simp length-set (r .flagged) };
+      roomy = λ r. record {
+        two = r .two;
+        few = r .few;
+        tailed = simp length-set (r .tailed);
+        missed = rw (put-hash-length (h .missing) hash k len) (r .missed);
+        asked = r .asked;
+        arrived = r .arrived;
+        flagged = simp length-set (r .flagged);
+      };
       rooms = refl;
       here = λ _. refl;
-      rest = λ r ne. rw (getD-set-other (h .tails) k r at NONE ne, put-hash-other (h .missing) hash k len r ne,
-        getD-set-other (h .connected) k r (withBit0 (getD (h .connected) k 0) false) 0 ne)
+      rest = λ r ne. rw (
+        getD-set-other (h .tails) k r at NONE ne,
+        put-hash-other (h .missing) hash k len r ne,
+        getD-set-other (h .connected) k r (withBit0 (getD (h .connected) k 0) false) 0 ne,
+      );
     }
 
 cached-kept : (h : Heads) (k : ℕ) (a : Anchor) (arriving : ℕ) (previous : List ℕ) → Room h → k < room h → kept (cached h k a arriving previous) k ≡ a

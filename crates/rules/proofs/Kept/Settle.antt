@@ -29,10 +29,10 @@ Turn t k h u = (u ≡ h) ⊎ Redone t k h u
 module _ (t : Blocks) (h : Heads) (top : ℕ) (C : ℕ → Type 0) (g : Frame t h top C) where
   pub redone : (k arriving : ℕ) (previous : List ℕ) → inUse h k ≡ true → Redone t k h (recomputeHead t h k arriving previous)
   redone k arriving previous u = record {
-      busy = u;
-      seat = recompute-seat t h k arriving previous;
-      right = recompute-kept t h k arriving previous (g .roomy) (use-lt h k u)
-    }
+    busy = u;
+    seat = recompute-seat t h k arriving previous;
+    right = recompute-kept t h k arriving previous (g .roomy) (use-lt h k u);
+  }
 
   module _ (u : Heads) (k : ℕ) where
     turn-tip : Turn t k h u → (s : ℕ) → tipOf u s ≡ tipOf h s
@@ -48,7 +48,7 @@ module _ (t : Blocks) (h : Heads) (top : ℕ) (C : ℕ → Type 0) (g : Frame t 
     turn-frame : Turn t k h u → Frame t u top C
     turn-frame (inl q) = rw q g
     turn-frame (inr r) = let p = g .tips k (r .busy) in
-      seat-frame t h u top k (tipOf h k) C C g (r .seat) (use-lt h k (r .busy)) (p .0) (p .1)
+        seat-frame t h u top k (tipOf h k) C C g (r .seat) (use-lt h k (r .busy)) (p .0) (p .1)
         (λ s ne us q. ne (g .apart s k us (r .busy) q))
         (λ i c ne. (c, λ _ q. ne (sym q)))
 
@@ -67,8 +67,9 @@ module _ (t : Blocks) (h : Heads) (top : ℕ) (C : ℕ → Type 0) (g : Frame t 
     turn-apt need (inr r) a s us = same? s k
         (λ q. inl (rw q (redone-ends r)))
         (λ ne. elim (a s (sym (turn-use (inr r) s) ∙ us)) [
-          inl x ↦ inl (turn-right (inr r) s x)
-        | inr n ↦ inr (rw (r .seat .rest s ne) n) ])
+          | inl x ↦ inl (turn-right (inr r) s x)
+          | inr n ↦ inr (rw (r .seat .rest s ne) n)
+        ])
 
 -- ---- a loop of such turns
 
@@ -93,8 +94,9 @@ module _ (t : Blocks) (top : ℕ) (C : ℕ → Type 0) (act : ℕ → Heads → 
       last : (n : ℕ) (u : Heads) (f : Frame t u top C) → Apt t u need → (s : ℕ) → inUse u s ≡ true → (s ≢ n → Ends t (tipOf u s) (kept u s)) → Ends t (tipOf (act n u) s) (kept (act n u) s)
       last n u f b s us rest = same? s n
           (λ q. elim (b s us) [
-            inl x ↦ turn-right t u top C f (act n u) n (turn n u f) s x
-          | inr e ↦ rw q (redone-ends t u top C f (act n u) n (must n u f (rw q at us) (rw q at e))) ])
+            | inl x ↦ turn-right t u top C f (act n u) n (turn n u f) s x
+            | inr e ↦ rw q (redone-ends t u top C f (act n u) n (must n u f (rw q at us) (rw q at e)))
+          ])
           (λ ne. turn-right t u top C f (act n u) n (turn n u f) s (rest ne))
 
       settled : (n s : ℕ) → s < n → inUse h s ≡ true → Ends t (tipOf (inOrder act n h) s) (kept (inOrder act n h) s)
@@ -104,6 +106,6 @@ module _ (t : Blocks) (top : ℕ) (C : ℕ → Type 0) (act : ℕ → Heads → 
 
       pub loop-good : (n : ℕ) → room h ≤ n → Good t (inOrder act n h) top C
       loop-good n le = record {
-          frame = loop-frame n;
-          anchored = λ s u. let us = sym (loop-use n s) ∙ u in settled n s (let l = use-lt h s us in omega arith) us
-        }
+        frame = loop-frame n;
+        anchored = λ s u. let us = sym (loop-use n s) ∙ u in settled n s (let l = use-lt h s us in omega arith) us;
+      }

@@ -78,23 +78,33 @@ module _ (t : Blocks) (i : ℕ) (b : Block) (len : length (b .hash) ≡ hashLeng
   pub put-but : But t (putBlock t i b) i
   unfolding putBlock blockAt
   put-but = record {
-      shapes = λ s. record {
-        some = simp length-set (s .some);
-        small = simp length-set (s .small);
-        parents = simp length-set (s .parents);
-        counts = simp length-set (s .counts);
-        flagged = simp length-set (s .flagged);
-        hashed = rw (put-hash-length (t .hashes) (b .hash) i len) (simp length-set (s .hashed))
-      };
-      sizes = length-set (t .sequences) i (b .sequence .0);
-      rest = λ j ne. rw (put-hash-other (t .hashes) (b .hash) i len j ne, getD-set-other (t .parents) i j (b .parent .0) NONE ne,
-        getD-set-other (t .sequences) i j (b .sequence .0) NONE ne, getD-set-other (t .counts) i j (b .count) 0 ne, getD-set-other (t .flags) i j (b .flags) 0 ne)
-    }
+    shapes = λ s. record {
+      some = simp length-set (s .some);
+      small = simp length-set (s .small);
+      parents = simp length-set (s .parents);
+      counts = simp length-set (s .counts);
+      flagged = simp length-set (s .flagged);
+      hashed = rw (put-hash-length (t .hashes) (b .hash) i len) (simp length-set (s .hashed));
+    };
+    sizes = length-set (t .sequences) i (b .sequence .0);
+    rest = λ j ne. rw (
+      put-hash-other (t .hashes) (b .hash) i len j ne,
+      getD-set-other (t .parents) i j (b .parent .0) NONE ne,
+      getD-set-other (t .sequences) i j (b .sequence .0) NONE ne,
+      getD-set-other (t .counts) i j (b .count) 0 ne,
+      getD-set-other (t .flags) i j (b .flags) 0 ne,
+    );
+  }
 
   pub put-here : Shape t → i < size t → blockAt (putBlock t i b) i ≡ b
   unfolding putBlock blockAt
-  put-here s l = rw (put-hash-here (t .hashes) (b .hash) i len (omega (arith, s .hashed)), getD-set-same (t .parents) i (b .parent .0) NONE (omega (arith, s .parents)),
-      getD-set-same (t .sequences) i (b .sequence .0) NONE l, getD-set-same (t .counts) i (b .count) 0 (omega (arith, s .counts)), getD-set-same (t .flags) i (b .flags) 0 (omega (arith, s .flagged)))
+  put-here s l = rw (
+    put-hash-here (t .hashes) (b .hash) i len (omega (arith, s .hashed)),
+    getD-set-same (t .parents) i (b .parent .0) NONE (omega (arith, s .parents)),
+    getD-set-same (t .sequences) i (b .sequence .0) NONE l,
+    getD-set-same (t .counts) i (b .count) 0 (omega (arith, s .counts)),
+    getD-set-same (t .flags) i (b .flags) 0 (omega (arith, s .flagged)),
+  )
 
 abbrev pub erase : Blocks → ℕ → Blocks
 erase t i = putBlock t i emptyBlock
@@ -125,10 +135,10 @@ module _ (t : Blocks) (i c : ℕ) where
   pub count-but : But t (setCount t i c) i
   unfolding blockAt
   count-but = record {
-      shapes = λ s. record { some = s .some; small = s .small; parents = s .parents; counts = simp length-set (s .counts); flagged = s .flagged; hashed = s .hashed };
-      sizes = refl;
-      rest = λ j ne. rw (getD-set-other (t .counts) i j c 0 ne)
-    }
+    shapes = λ s. record { some = s .some; small = s .small; parents = s .parents; counts = simp length-set (s .counts); flagged = s .flagged; hashed = s .hashed };
+    sizes = refl;
+    rest = λ j ne. rw (getD-set-other (t .counts) i j c 0 ne);
+  }
 
   pub count-here : Shape t → holds t i ≡ true → countOf (setCount t i c) i ≡ c
   count-here s o = getD-set-same (t .counts) i c 0 (let l = holds-lt t i o in let k = s .counts in omega arith)
@@ -140,10 +150,10 @@ module _ (t : Blocks) (i c : ℕ) where
   pub parent-but : But t (setParent t i c) i
   unfolding blockAt
   parent-but = record {
-      shapes = λ s. record { some = s .some; small = s .small; parents = simp length-set (s .parents); counts = s .counts; flagged = s .flagged; hashed = s .hashed };
-      sizes = refl;
-      rest = λ j ne. rw (getD-set-other (t .parents) i j c NONE ne)
-    }
+    shapes = λ s. record { some = s .some; small = s .small; parents = simp length-set (s .parents); counts = s .counts; flagged = s .flagged; hashed = s .hashed };
+    sizes = refl;
+    rest = λ j ne. rw (getD-set-other (t .parents) i j c NONE ne);
+  }
 
   pub parent-here : Shape t → holds t i ≡ true → parentOf (setParent t i c) i ≡ c
   parent-here s o = getD-set-same (t .parents) i c NONE (let l = holds-lt t i o in let k = s .parents in omega arith)

@@ -24,16 +24,16 @@ steady-refl x t = record { keeps = λ _ o a. (o, a, λ _. refl); back = λ _ o a
 
 pub steady-trans : (x : ℕ) (t u v : Blocks) → Steady x t u → Steady x u v → Steady x t v
 steady-trans x t u v a b = record {
-    keeps = λ i o c.
+  keeps = λ i o c.
       let p = a .keeps i o c in
       let q = b .keeps i (p .0) (p .1) in
       (q .0, q .1, λ ne. q .2 (rw (p .2 ne) ne) ∙ p .2 ne);
-    back = λ i o c. let p = b .back i o c in a .back i (p .0) (p .1);
-    same = λ i ne o.
+  back = λ i o c. let p = b .back i o c in a .back i (p .0) (p .1);
+  same = λ i ne o.
       let p = b .same i ne o in
       let q = a .same i ne (p .0) in
-      (q .0, p .1 ∙ q .1, p .2 ∙ q .2)
-  }
+      (q .0, p .1 ∙ q .1, p .2 ∙ q .2);
+}
 
 -- an exception more does no harm
 pub steady-any : (x : ℕ) (t u : Blocks) → Shape u → Steady NONE t u → Steady x t u
@@ -48,7 +48,7 @@ but-steady x t u i b so sa ss sh sp =
     record {
       keeps = λ j o a. (hold j ∙ o, chain j ∙ a, λ n. same? j i (λ q. rw q (sp (rw q at n))) (λ ne. but-parent t u i b j ne));
       back = λ j o a. (sym (hold j) ∙ o, sym (chain j) ∙ a);
-      same = λ j _ o. (sym (hold j) ∙ o, same? j i (λ q. rw q ss) (λ ne. but-seq t u i b j ne), same? j i (λ q. rw q sh) (λ ne. but-hash t u i b j ne))
+      same = λ j _ o. (sym (hold j) ∙ o, same? j i (λ q. rw q ss) (λ ne. but-seq t u i b j ne), same? j i (λ q. rw q sh) (λ ne. but-hash t u i b j ne));
     }
 
 -- ---- eviction
@@ -61,8 +61,8 @@ freed-leaf t i u (keeps t′ i′ c e h) j ne o z = (o, rw count-kids z)
 freed-leaf t i u (frees t′ i′ u′ e a h r) j ne o z =
     let np : parentOf t i ≢ j = λ q. absurd (omega (arith, rw q at (erase-kids-parent t i e))) in
     freed-leaf (erase t i) (parentOf t i) u r j (λ q. np (sym q))
-      (rw (but-holds t (erase t i) i (erase-but t i) j ne) o)
-      (rw (erase-kids-other t i j np) z)
+    (rw (but-holds t (erase t i) i (erase-but t i) j ne) o)
+    (rw (erase-kids-other t i j np) z)
 
 -- what is there after was there before, under its name
 pub freed-back : (t : Blocks) (i : ℕ) (u : Blocks) → Freed t i u → (j : ℕ) → holds u j ≡ true
@@ -88,10 +88,10 @@ freed-active t i u (frees t′ i′ u′ e b h r) j o a =
 
 pub freed-steady : (x : ℕ) (t : Blocks) (i : ℕ) (u : Blocks) → Freed t i u → Steady x t u
 freed-steady x t i u w = record {
-    keeps = λ j o a. let p = freed-active t i u w j o a in (p .0, p .1, λ _. p .2);
-    back = λ j o a. let p = freed-back t i u w j o in (p .0, sym (p .3) ∙ a);
-    same = λ j _ o. let p = freed-back t i u w j o in (p .0, p .1, p .2)
-  }
+  keeps = λ j o a. let p = freed-active t i u w j o a in (p .0, p .1, λ _. p .2);
+  back = λ j o a. let p = freed-back t i u w j o in (p .0, sym (p .3) ∙ a);
+  same = λ j _ o. let p = freed-back t i u w j o in (p .0, p .1, p .2);
+}
 
 -- what is childless after was childless before and off the walk's start, or is active
 pub freed-childless : (t : Blocks) (i : ℕ) (u : Blocks) → Freed t i u → (j : ℕ) → holds u j ≡ true → onChain u j ≡ false → childrenOf u j ≡ 0
@@ -126,11 +126,11 @@ pub freed-ends : (t : Blocks) (i : ℕ) (u : Blocks) → Freed t i u → (j : �
 freed-ends t i u (off t′ i′ e) j a o x = x
 freed-ends t i u (keeps t′ i′ c e h) j a o x = ends-same t (setCount t i c) (λ k. (refl, refl, refl)) j a x
 freed-ends t i u (frees t′ i′ u′ e b h r) j a o x = let w = erase-but t i in
-  freed-ends (erase t i) (parentOf t i) u r j a o
+    freed-ends (erase t i) (parentOf t i) u r j a o
     (ends-move t (erase t i) (λ k. k ≢ i)
-      (λ k _ ok _. childless t i k h ok)
-      (λ k ne. (but-holds t (erase t i) i w k ne, but-chain t (erase t i) i w k ne, but-parent t (erase t i) i w k ne))
-      j a (λ q. true-not-false {b = holds (erase t i) j} (freed-back (erase t i) (parentOf t i) u r j o .0) (rw q (erase-empty t i))) x)
+    (λ k _ ok _. childless t i k h ok)
+    (λ k ne. (but-holds t (erase t i) i w k ne, but-chain t (erase t i) i w k ne, but-parent t (erase t i) i w k ne))
+    j a (λ q. true-not-false {b = holds (erase t i) j} (freed-back (erase t i) (parentOf t i) u r j o .0) (rw q (erase-empty t i))) x)
 
 pub freed-size : (t : Blocks) (i : ℕ) (u : Blocks) → Freed t i u → size u ≡ size t
 freed-size t i u (off t′ i′ e) = refl

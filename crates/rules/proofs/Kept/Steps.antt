@@ -20,7 +20,24 @@ use Rattle.rules.specs.Rebuild.{restarted}
 use Rattle.rules.specs.Timer.{Ask, spanOr, due, mayAsk, asksBefore, chosen, claimed, askAt, recovery, markRequested}
 use Rattle.rules.specs.Answers.{Answer, done, freed, request, noneDue}
 use Rattle.rules.specs.Calls.{
-  State, Stepped, Call, promoteCall, removeCall, timerCall, restartCall, keeping, answering, shaped, isNext, promote, holdsActive, remove, withRequested, asked, timer, restart
+  State,
+  Stepped,
+  Call,
+  promoteCall,
+  removeCall,
+  timerCall,
+  restartCall,
+  keeping,
+  answering,
+  shaped,
+  isNext,
+  promote,
+  holdsActive,
+  remove,
+  withRequested,
+  asked,
+  timer,
+  restart,
 }
 use Rattle.rules.specs.Promises.{sequence, parent, Occupied, Active, Not, OnLine, start, down, headAt, name, Accepted, Sound}
 use Rattle.rules.proofs.Splits.{split, same?, option?, and-true, true-not-false}
@@ -46,11 +63,11 @@ module _ (s : State) (r : ℕ) (z : Sound s) where
   unfolding remove
   went-remove = rw (z .shape) (split (holds (blocksOf s) r)
       (λ o. split (holdsActive (blocksOf s) r)
-        (λ e. rw (o, e) (turned-away (removeCall r) s 9 z))
-        (λ e.
-          let d = remove-done (blocksOf s) (headsOf s) (s .activeHead) r (sound-good s z) o e in
-          rw (o, e) (quiet (removeCall r) s (removed (s .tables) r) (freed (length (markSubtree (s .tables .blocks .parents) (s .tables .blocks .sequences) r))) z
-            (d .0) (d .1) (λ _. refl) (λ i q _. not-promote i q))))
+      (λ e. rw (o, e) (turned-away (removeCall r) s 9 z))
+      (λ e.
+      let d = remove-done (blocksOf s) (headsOf s) (s .activeHead) r (sound-good s z) o e in
+      rw (o, e) (quiet (removeCall r) s (removed (s .tables) r) (freed (length (markSubtree (s .tables .blocks .parents) (s .tables .blocks .sequences) r))) z
+      (d .0) (d .1) (λ _. refl) (λ i q _. not-promote i q))))
       (λ o. rw o (turned-away (removeCall r) s 3 z)))
 
 -- ---- restart
@@ -80,14 +97,14 @@ requested-good s k now g u =
         voids = f .voids;
         roomy = record { two = r .two; few = r .few; tailed = r .tailed; missed = r .missed; asked = simp length-set (r .asked); arrived = r .arrived; flagged = r .flagged };
         blanks = λ j e.
-          let ne : j ≢ k = λ q. true-not-false {b = inUse (headsOf s) k} u (rw q at e) in
-          rw (getD-set-other (s .tables .heads .requested) k j now 0 ne) (f .blanks j e);
+            let ne : j ≢ k = λ q. true-not-false {b = inUse (headsOf s) k} u (rw q at e) in
+            rw (getD-set-other (s .tables .heads .requested) k j now 0 ne) (f .blanks j e);
         tips = f .tips;
         apart = f .apart;
         covered = f .covered;
-        chained = f .chained
+        chained = f .chained;
       };
-      anchored = g .anchored
+      anchored = g .anchored;
     }
 
 module _ (s : State) (now : ℕ) (span : Option ℕ) (z : Sound s) where
@@ -143,5 +160,5 @@ module _ (s : State) (now : ℕ) (span : Option ℕ) (z : Sound s) where
   went-timer = rw (z .shape) (option? pick
       (λ e. rw (found-none e) silent)
       (λ k e. split (occupied (b .sequences) (tailAt (h .tails) k))
-        (λ o. rw (found-some k e, ask-yes k o) (asking k (claimed (sequenceAt (b .sequences) (tailAt (h .tails) k))) (picked-use k e)))
-        (λ o. rw (found-some k e, ask-no k o) silent)))
+      (λ o. rw (found-some k e, ask-yes k o) (asking k (claimed (sequenceAt (b .sequences) (tailAt (h .tails) k))) (picked-use k e)))
+      (λ o. rw (found-some k e, ask-no k o) silent)))

@@ -65,19 +65,19 @@ listed-there i l j e = rw (ne-eqb i j e)
 
 sweep-next : (i : ℕ) (l : List ℕ) (t u : Blocks) → Swept l (delete t i) u → Swept (i ∷ l) t u
 sweep-next i l t u w = let b = delete-but t i in
-  record {
-    sizes = w .sizes ∙ b .sizes;
-    shapes = λ s. w .shapes (b .shapes s);
-    voids = λ s v. w .voids (b .shapes s) (delete-voids t i s v);
-    gone = λ j m. split (listed l j)
-      (λ n. w .gone j n)
-      (λ n. same? i j
-        (λ q. holds-same (delete t i) u j (w .stay j n) ∙ rw (← q) (delete-empty t i))
-        (λ ne. true-not-false {b = listed l j} (sym (listed-there i l j ne) ∙ m) n));
-    stay = λ j m.
-      let ne : i ≢ j = λ q. true-not-false {b = listed (i ∷ l) j} (listed-here i l j q) m in
-      w .stay j (sym (listed-there i l j ne) ∙ m) ∙ b .rest j (λ q. ne (sym q))
-  }
+    record {
+      sizes = w .sizes ∙ b .sizes;
+      shapes = λ s. w .shapes (b .shapes s);
+      voids = λ s v. w .voids (b .shapes s) (delete-voids t i s v);
+      gone = λ j m. split (listed l j)
+          (λ n. w .gone j n)
+          (λ n. same? i j
+          (λ q. holds-same (delete t i) u j (w .stay j n) ∙ rw (← q) (delete-empty t i))
+          (λ ne. true-not-false {b = listed l j} (sym (listed-there i l j ne) ∙ m) n));
+      stay = λ j m.
+          let ne : i ≢ j = λ q. true-not-false {b = listed (i ∷ l) j} (listed-here i l j q) m in
+          w .stay j (sym (listed-there i l j ne) ∙ m) ∙ b .rest j (λ q. ne (sym q));
+    }
 
 pub swept : (l : List ℕ) (t : Blocks) → Swept l t (freeAll l t)
 unfolding freeAll listed
@@ -136,8 +136,14 @@ module _ (t : Blocks) (s : Shape t) where
 
   recounted-shape : Shape (recounted t)
   unfolding recountAll
-  recounted-shape = record { some = s .some; small = s .small; parents = s .parents;
-      counts = tally-length (t .parents) (t .sequences) (slotsOf (t .sequences)) (t .counts) ∙ s .counts; flagged = s .flagged; hashed = s .hashed }
+  recounted-shape = record {
+    some = s .some;
+    small = s .small;
+    parents = s .parents;
+    counts = tally-length (t .parents) (t .sequences) (slotsOf (t .sequences)) (t .counts) ∙ s .counts;
+    flagged = s .flagged;
+    hashed = s .hashed;
+  }
 
   pub recounted-voids : Voids t → Voids (recounted t)
   unfolding blockAt recountAll
@@ -147,11 +153,11 @@ module _ (t : Blocks) (s : Shape t) where
   pub recounted-kept : Linked t → ((i : ℕ) → holds t i ≡ true → childrenOf t i ≤ 255) → Kept (recounted t)
   unfolding recountAll
   recounted-kept l few = record {
-      shape = recounted-shape;
-      linked = l;
-      counted = λ j o a.
+    shape = recounted-shape;
+    linked = l;
+    counted = λ j o a.
         let lj = holds-lt t j o in
         let k = kids-slots t s in
         let c = s .counts in
-        rw (tally-set (t .parents) (t .sequences) (slotsOf (t .sequences)) j (t .counts) (omega arith) (omega arith) o, kids-are j, recounted-kids j) (omega (arith, few j o))
-    }
+        rw (tally-set (t .parents) (t .sequences) (slotsOf (t .sequences)) j (t .counts) (omega arith) (omega arith) o, kids-are j, recounted-kids j) (omega (arith, few j o));
+  }

@@ -54,11 +54,11 @@ module _ (s : State) (sh : Shape (blocksOf s)) (l : Linked (blocksOf s)) where
   walk-there (suc f) i o d = same? (parentOf t i) NONE
       (λ e. (i ∷ [], ends i (holds-ne t i o) (no-parent i e), omega arith))
       (λ ne.
-        let p = parent-there t i l o ne in
-        let q = depth-falls t i (parentOf t i) (p .0) (omega arith) in
-        let r = walk-there f (parentOf t i) (p .0) (omega arith) in
-        let n = r .2 in
-        (i ∷ r .0, goes i (r .0) (holds-ne t i o) (r .1), omega arith))
+      let p = parent-there t i l o ne in
+      let q = depth-falls t i (parentOf t i) (p .0) (omega arith) in
+      let r = walk-there f (parentOf t i) (p .0) (omega arith) in
+      let n = r .2 in
+      (i ∷ r .0, goes i (r .0) (holds-ne t i o) (r .1), omega arith))
 
   -- what a walk that ends so has met
   unfoldable pub Met : List ℕ → Anchor → Type 0
@@ -118,4 +118,4 @@ module _ (s : State) (sh : Shape (blocksOf s)) (l : Linked (blocksOf s)) where
       stop v e k (goes m r p n) = omega arith
   walk-last a i visits (goes j rest o w) none (behind k v m) =
       goes-on j {a = tail a} (ne-holds t j o) (idle-off s j (none j (first rest))) (holds-real t (parentOf t j) sh (walk-starts (parentOf t j) rest w))
-        (walk-last a (parentOf t j) rest w (λ c d. none c (further j rest d)) m)
+      (walk-last a (parentOf t j) rest w (λ c d. none c (further j rest d)) m)

@@ -37,8 +37,8 @@ unfolding active blockAt
 chain-holds t i v a = split (holds t i)
     (λ o. o)
     (λ e.
-      let z : flagsAt (t .flags) i ≡ 0 = ap (λ (x : Block). x .flags) (v i e) in
-      true-not-false {b = onChain t i} a (rw z refl))
+    let z : flagsAt (t .flags) i ≡ 0 = ap (λ (x : Block). x .flags) (v i e) in
+    true-not-false {b = onChain t i} a (rw z refl))
 
 pub name-same : (s u : State) (i : ℕ) → sequence u i ≡ sequence s i → hashOf (blocksOf u) i ≡ hashOf (blocksOf s) i → name u i ≡ name s i
 name-same s u i a b = rw (a, b) refl
@@ -92,18 +92,18 @@ quiet call s w answer z g y mute never =
     let f = none-free s z in
     let v = g .frame .voids in
     let same : (i : ℕ) → Occupied u i → Occupied s i × (name u i ≡ name s i) = λ i o.
-      let h = ne-holds (w .blocks) i o in
-      let p = y .same i (holds-real (w .blocks) i (g .frame .counts .shape) h) h in
-      (holds-ne (blocksOf s) i (p .0), name-same s u i (p .1) (p .2)) in
+    let h = ne-holds (w .blocks) i o in
+    let p = y .same i (holds-real (w .blocks) i (g .frame .counts .shape) h) h in
+    (holds-ne (blocksOf s) i (p .0), name-same s u i (p .1) (p .2)) in
     record {
       sound = good-sound u g (line-on s z w NONE f y v) (top-on s z w NONE f y) (λ i j oi oj q.
-        let a = same i oi in
-        let b = same j oj in
-        z .names i j (a .0) (b .0) (sym (a .1) ∙ q ∙ b .1));
+          let a = same i oi in
+          let b = same j oj in
+          z .names i j (a .0) (b .0) (sym (a .1) ∙ q ∙ b .1));
       stays = active-stays s z w NONE f y;
       new = λ i e a. absurd (never i e a);
       only = λ i a. inl (active-was s z w NONE f y v i a);
-      given = λ i was o h. let p = same i o in rw (mute i) (h (p .0) ∙ ap some (sym (p .1)))
+      given = λ i was o h. let p = same i o in rw (mute i) (h (p .0) ∙ ap some (sym (p .1)));
     }
 
 pub turned-away : (call : Call) (s : State) (number : ℕ) → Sound s → Went call s (refuse s number)

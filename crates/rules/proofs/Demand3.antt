@@ -1,18 +1,15 @@
 -- Demand 3, whole: the promises of specs/Promises.antt hold after every list of calls from what an accepted fresh left.
-use mathlib.Core.Path.{_≡_, refl}
-use mathlib.Core.Logic.{_⊎_, inl, inr}
-use mathlib.Core.Bool.{Bool, true, false, not}
-use mathlib.Core.List.{List, [], _∷_}
-use Prim.Native.Nat.{ℕ, _≤_, _<_}
+use mathlib.Core.Path.{refl}
+use mathlib.Core.Logic.{inl}
+use mathlib.Core.List.{List, []}
+use Prim.Native.Nat.{ℕ, _≤_}
 use native.Mathlib.Omega.{arith}
-use lib.ListN.{length}
-use Rattle.rules.specs.Common.{if_then_else_}
 use Rattle.rules.specs.Records.{NONE}
 use Rattle.rules.specs.Rebuild.{emptyBlocks, emptyHeads}
-use Rattle.rules.specs.Calls.{State, Stepped, Call, shaped, blocksIn, headsIn, freshState, fresh, refuse, run}
-use Rattle.rules.specs.Promises.{Occupied, Active, Made, Accepted, Promoted, Sound, Recorded, Promise}
+use Rattle.rules.specs.Calls.{State, Call, shaped, blocksIn, headsIn, freshState, fresh}
+use Rattle.rules.specs.Promises.{Occupied, Active, Accepted, Sound, Recorded, Promise}
 use Rattle.rules.proofs.Splits.{split}
-use Rattle.rules.proofs.Kept.Table.{holds, onChain, ne-holds}
+use Rattle.rules.proofs.Kept.Table.{ne-holds}
 use Rattle.rules.proofs.Kept.Frame.{Good, All}
 use Rattle.rules.proofs.Kept.Empty.{no-block, none-held, empty-shape, no-head, none-used, empty-room}
 use Rattle.rules.proofs.Kept.Walked.{active-on}

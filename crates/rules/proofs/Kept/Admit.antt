@@ -1,32 +1,29 @@
 -- Admission as a whole (01, "Admission").
-use mathlib.Core.Path.{_≡_, refl, sym, ap, _∙_}
-use mathlib.Core.Logic.{_≢_, _⊎_, inl, inr}
-use mathlib.Core.Bool.{Bool, true, false, not, _&&_}
+use mathlib.Core.Path.{_≡_, refl, _∙_}
+use mathlib.Core.Logic.{_≢_, inl}
+use mathlib.Core.Bool.{true, false}
 use mathlib.Core.List.{List}
 use mathlib.Core.Option.{Option, none, some}
-use Prim.Native.Nat.{ℕ, suc, _≤_, _<_, max}
+use Prim.Native.Nat.{ℕ, _<_}
 use native.Mathlib.Omega.{arith}
-use lib.IntN.{pos}
 use lib.ListN.{set}
-use Rattle.rules.specs.Common.{if_then_else_, inOrder}
+use Rattle.rules.specs.Common.{inOrder}
 use Rattle.rules.specs.Records.{NONE, Blocks, Heads, Tables, slotsOf}
-use Rattle.rules.specs.BlockTable.{adjust, insertAt}
+use Rattle.rules.specs.BlockTable.{insertAt}
 use Rattle.rules.specs.Caches.{slotOfHead, recomputeHead}
 use Rattle.rules.specs.Admission.{withTips, withArrivals, insertHead, moveUp, fork, placeHead, linkLate, linkTails, recomputeMissing, resolveTails, admitted, refreshTails}
 use Rattle.rules.specs.Calls.{newBlock, slotOrNone}
-use Rattle.rules.specs.Promises.{childrenOf}
-use Rattle.rules.proofs.Splits.{split, same?, option?, true-not-false}
-use Rattle.rules.proofs.Kept.Table.{size, seqOf, parentOf, countOf, hashOf, holds, onChain, setCount, Shape, Kept, holds-real}
+use Rattle.rules.proofs.Splits.{option?, true-not-false}
+use Rattle.rules.proofs.Kept.Table.{seqOf, countOf, hashOf, holds, onChain, setCount, Kept, holds-real}
 use Rattle.rules.proofs.Kept.Slots.{but-holds, count-but, count-kids}
-use Rattle.rules.proofs.Kept.Ends.{located}
 use Rattle.rules.proofs.Kept.Steady.{Steady, steady-refl, steady-trans, steady-any, but-steady}
-use Rattle.rules.proofs.Kept.Seats.{room, tipOf, inUse, kept, use-lt, Seat, tip-seat, arrival-seat}
-use Rattle.rules.proofs.Kept.Frame.{Frame, Good, All, head-some}
+use Rattle.rules.proofs.Kept.Seats.{tipOf, inUse, use-lt, Seat, tip-seat, arrival-seat}
+use Rattle.rules.proofs.Kept.Frame.{Good, All, head-some}
 use Rattle.rules.proofs.Kept.Leaves.{children-bound}
-use Rattle.rules.proofs.Kept.Place.{New, Done, insert-done, again-seat, again-kept}
+use Rattle.rules.proofs.Kept.Place.{Done, insert-done, again-seat, again-kept}
 use Rattle.rules.proofs.Kept.Insert.{insert, Fits, insert-but, insert-seq, insert-hash, insert-holds, insert-chain, insert-kids, insert-steady, insert-is, parent-not-self}
 use Rattle.rules.proofs.Kept.Arrive.{raise, raised, root-good, extend-good, fork-good}
-use Rattle.rules.proofs.Kept.LinkLoop.{Joining, all-keep}
+use Rattle.rules.proofs.Kept.LinkLoop.{all-keep}
 use Rattle.rules.proofs.Kept.Refresh.{refreshed}
 
 -- the new block of u has its head

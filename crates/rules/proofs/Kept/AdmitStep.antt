@@ -1,27 +1,25 @@
 -- Admission as a call of a list.
 use mathlib.Core.Path.{_≡_, refl, sym, ap, _∙_}
 use mathlib.Core.Logic.{_≢_, _⊎_, inl, inr}
-use mathlib.Core.Bool.{Bool, true, false, not, _&&_}
-use mathlib.Core.List.{List, [], _∷_}
+use mathlib.Core.Bool.{true, not, _&&_}
+use mathlib.Core.List.{List}
 use mathlib.Core.Option.{Option, none, some}
-use Prim.Native.Nat.{ℕ, suc, _-_, _≤_, _<_}
+use Prim.Native.Nat.{ℕ, suc, _-_}
 use native.Mathlib.Omega.{arith}
 use lib.Dec.{eqb}
 use lib.ListN.{length}
 use borrow.Author.Tests.{eqb-true, eqb-false, eq-eqb, ne-eqb, not-true}
-use Rattle.rules.specs.Common.{if_then_else_, isSome, isAt, lowest}
-use Rattle.rules.specs.Hashes.{hashLength, zeroHash, hashAt, sameHash}
-use Rattle.rules.specs.Records.{NONE, Blocks, Heads, Tables, slotsOf, sequenceAt}
-use Rattle.rules.specs.BlockTable.{isBlock, find, nextFree, findParent, insertAt}
-use Rattle.rules.specs.Admission.{admitted, refreshTails}
-use Rattle.rules.specs.Answers.{Answer, refused, slot}
-use Rattle.rules.specs.Calls.{State, Stepped, Call, admitCall, promoteCall, keeping, answering, shaped, newBlock, slotOrNone, admitAt, admit}
-use Rattle.rules.specs.Promises.{sequence, Occupied, Active, Name, name, Accepted, Sound}
-use Rattle.rules.proofs.Splits.{split, same?, option?, and-true, and-both, true-not-false, some-not-none}
+use Rattle.rules.specs.Hashes.{hashLength, zeroHash, sameHash}
+use Rattle.rules.specs.Records.{NONE, Blocks, Tables, slotsOf}
+use Rattle.rules.specs.BlockTable.{isBlock, find, nextFree, findParent}
+use Rattle.rules.specs.Answers.{slot}
+use Rattle.rules.specs.Calls.{State, Call, admitCall, keeping, answering, slotOrNone, admitAt, admit}
+use Rattle.rules.specs.Promises.{sequence, Occupied, Name, name, Sound}
+use Rattle.rules.proofs.Splits.{split, same?, option?, and-true, true-not-false, some-not-none}
 use Rattle.rules.proofs.Search.{lowest-holds, lowest-misses}
 use Rattle.rules.proofs.Hashes.{same-refl}
-use Rattle.rules.proofs.Kept.Table.{size, seqOf, hashOf, holds, onChain, Shape, holds-lt, holds-ne, ne-holds, kids-slots}
-use Rattle.rules.proofs.Kept.Frame.{Frame, Good, All}
+use Rattle.rules.proofs.Kept.Table.{seqOf, hashOf, holds, Shape, holds-lt, holds-ne, ne-holds, kids-slots}
+use Rattle.rules.proofs.Kept.Frame.{Good, All}
 use Rattle.rules.proofs.Kept.Insert.{Fits}
 use Rattle.rules.proofs.Kept.Admit.{Admitted, admit-done}
 use Rattle.rules.proofs.Kept.Walked.{blocksOf, headsOf}

@@ -1,24 +1,23 @@
 -- The new block among the others: without parent, on a head, or on a block that is no head.
 use mathlib.Core.Path.{_≡_, refl, sym, ap, _∙_}
-use mathlib.Core.Logic.{_≢_, _⊎_, inl, inr}
-use mathlib.Core.Bool.{Bool, true, false}
+use mathlib.Core.Logic.{_≢_}
+use mathlib.Core.Bool.{true, false}
 use mathlib.Core.List.{List}
-use mathlib.Core.Option.{Option, none, some}
-use Prim.Native.Nat.{ℕ, suc, _+_, _≤_, _<_, max, min}
+use mathlib.Core.Option.{none}
+use Prim.Native.Nat.{ℕ, suc, _+_, _<_, max, min}
 use native.Mathlib.Omega.{arith}
 use lib.IntN.{pos}
-use Rattle.rules.specs.Common.{if_then_else_}
-use Rattle.rules.specs.Records.{NONE, Blocks, Heads, occupied}
+use Rattle.rules.specs.Records.{NONE, Blocks, Heads}
 use Rattle.rules.specs.BlockTable.{adjusted, adjustCounts, adjust}
 use Rattle.rules.specs.Anchor.{Anchor}
 use Rattle.rules.specs.Caches.{slotOfHead}
 use Rattle.rules.specs.Promises.{childrenOf}
-use Rattle.rules.proofs.Splits.{split, same?, true-not-false}
-use Rattle.rules.proofs.Kept.Table.{size, seqOf, parentOf, countOf, holds, onChain, setCount, Shape, Kept, holds-lt, holds-real}
+use Rattle.rules.proofs.Splits.{same?, true-not-false}
+use Rattle.rules.proofs.Kept.Table.{countOf, holds, onChain, setCount, Shape, Kept, holds-real}
 use Rattle.rules.proofs.Kept.Slots.{But, but-parent, but-count, but-chain, but-holds, count-but, count-here, count-kids, but-voids}
 use Rattle.rules.proofs.Kept.Ends.{Ends, located, anchor-ends}
 use Rattle.rules.proofs.Kept.Steady.{ends-move, ends-same}
-use Rattle.rules.proofs.Kept.Seats.{room, tipOf, inUse, kept, use-lt, Seat, seat-tip, seat-use, seat-kept, seat-taken, seat-blanks}
+use Rattle.rules.proofs.Kept.Seats.{tipOf, inUse, kept, use-lt, Seat, seat-tip, seat-use, seat-kept, seat-taken, seat-blanks}
 use Rattle.rules.proofs.Kept.Frame.{Frame, Good, All, Chained, head-none, seat-apart}
 use Rattle.rules.proofs.Kept.Insert.{insert, Fits, insert-but, insert-holds, insert-chain, insert-count, unnamed, parent-not-self, insert-kids, insert-kids-other, insert-kids-parent, insert-linked, insert-voids}
 

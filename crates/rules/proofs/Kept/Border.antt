@@ -1,51 +1,24 @@
 -- The promises of a state, and what the proofs keep of its tables: each gives the other.
-use mathlib.Core.Path.{_≡_, refl, sym, ap, _∙_}
-use mathlib.Core.Logic.{_≢_, _⊎_, inl, inr, _↔_}
+use mathlib.Core.Path.{_≡_, refl, sym, _∙_}
+use mathlib.Core.Logic.{_≢_, _⊎_, inl, inr}
 use mathlib.Core.Bool.{Bool, true, false, _&&_}
-use mathlib.Core.List.{List, [], _∷_}
-use mathlib.Core.Option.{Option, none, some}
-use Prim.Native.Nat.{ℕ, suc, _*_, _%_, _≤_, _<_, max}
+use mathlib.Core.List.{List}
+use mathlib.Core.Option.{some}
+use Prim.Native.Nat.{ℕ, suc, _*_, _%_, _≤_}
 use native.Mathlib.Omega.{arith}
 use lib.Dec.{eqb, leb}
 use lib.ListN.{length, getD}
-use borrow.Author.Tests.{eqb-true, eqb-false, eq-eqb, ne-eqb, leb-true, le-leb}
+use borrow.Author.Tests.{eqb-true, eqb-false, eq-eqb, leb-true, le-leb}
 use Rattle.rules.specs.Hashes.{hashLength}
-use Rattle.rules.specs.Records.{NONE, Blocks, Heads, Tables, bit0}
-use Rattle.rules.specs.Anchor.{Anchor, connection, tail}
+use Rattle.rules.specs.Records.{NONE, Tables, bit0}
+use Rattle.rules.specs.Anchor.{connection, tail}
 use Rattle.rules.specs.Calls.{State, blocksFit, headsFit, shaped, blocksIn, headsIn}
-use Rattle.rules.specs.Promises.{
-  sequence,
-  parent,
-  Occupied,
-  Active,
-  Not,
-  tip,
-  InUse,
-  anchor,
-  Connected,
-  headAt,
-  IsHead,
-  Walk,
-  Among,
-  first,
-  further,
-  MeetsActive,
-  FirstActive,
-  here,
-  after,
-  Last,
-  Anchored,
-  OnLine,
-  start,
-  down,
-  name,
-  Sound,
-}
-use Rattle.rules.proofs.Splits.{split, same?, and-true, true-not-false}
-use Rattle.rules.proofs.Kept.Table.{size, seqOf, parentOf, holds, onChain, Shape, Linked, Kept, holds-ne, ne-holds, empty-eq}
+use Rattle.rules.specs.Promises.{Occupied, Active, Not, tip, anchor, headAt, first, further, MeetsActive, FirstActive, here, after, Anchored, OnLine, start, down, name, Sound}
+use Rattle.rules.proofs.Splits.{split, and-true}
+use Rattle.rules.proofs.Kept.Table.{parentOf, holds, onChain, Shape, Linked, holds-ne, ne-holds, empty-eq}
 use Rattle.rules.proofs.Kept.Ends.{Ends, depth, depth-lt}
-use Rattle.rules.proofs.Kept.Seats.{room, tipOf, inUse, kept, keptBy, anchorOf, Room, use-ne, ne-use, free-eq}
-use Rattle.rules.proofs.Kept.Frame.{Frame, Good, All, Chained}
+use Rattle.rules.proofs.Kept.Seats.{tipOf, inUse, kept, keptBy, anchorOf, Room, use-ne, ne-use, free-eq}
+use Rattle.rules.proofs.Kept.Frame.{Good, All}
 use Rattle.rules.proofs.Kept.EvictHead.{victim-there}
 use Rattle.rules.proofs.Kept.Walked.{blocksOf, headsOf, active-on, on-active, idle-off, off-idle, walk-there, Met, walk-met, walk-first, walk-last}
 

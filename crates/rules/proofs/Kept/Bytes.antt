@@ -1,13 +1,13 @@
 -- What a stored hash leaves in its own place and in the others.
-use mathlib.Core.Path.{_≡_, refl, sym, ap, _∙_}
+use mathlib.Core.Path.{_≡_, refl, sym, _∙_}
 use mathlib.Core.Logic.{_≢_}
 use mathlib.Core.List.{List, [], _∷_}
 use Prim.Native.Nat.{ℕ, zero, suc, _+_, _*_, _<_, _≤_}
 use native.Mathlib.Nat.{add-zero}
 use native.Mathlib.Omega.{arith}
-use lib.ListN.{length, getD, set, replicate, length-set, length-replicate, getD-replicate, List·getD-eq-default}
+use lib.ListN.{length, getD, set, length-set, length-replicate}
 use lib.Seq.{sets, getD-set-same, getD-set-other, length-sets}
-use Rattle.rules.specs.Hashes.{bytesFrom, hashAt, putHash, hashLength, zeroHash}
+use Rattle.rules.specs.Hashes.{hashAt, putHash, hashLength, zeroHash}
 use Rattle.rules.proofs.Splits.{less?}
 use Rattle.rules.proofs.Hashes.{bytes-length, bytes-at, hash-is}
 

@@ -5,7 +5,7 @@ use mathlib.Core.Bool.{Bool, true, false}
 use mathlib.Core.Option.{Option, none, some}
 use Prim.Native.Nat.{ℕ, zero, suc, _<_}
 use native.Mathlib.Omega.{arith}
-use Rattle.rules.specs.Common.{if_then_else_, better, best}
+use Rattle.rules.specs.Common.{better, best}
 use Rattle.rules.proofs.Splits.{split, same?, some-not-none}
 
 better-some : (before : ℕ → ℕ → Bool) (k b : ℕ) (o : Option ℕ) → better before k o ≡ some b → (b ≡ k) ⊎ (o ≡ some b)

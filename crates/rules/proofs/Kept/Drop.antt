@@ -1,21 +1,20 @@
 -- Removal's work on the heads: of those whose tip was freed one may move to the root's parent, and the rest are emptied.
 use mathlib.Core.Path.{_≡_, refl, sym, ap, _∙_}
-use mathlib.Core.Logic.{_≢_, _⊎_, inl, inr}
-use mathlib.Core.Bool.{Bool, true, false, not, _&&_}
+use mathlib.Core.Bool.{true, false}
 use mathlib.Core.List.{List}
-use mathlib.Core.Option.{Option, none, some}
+use mathlib.Core.Option.{Option}
 use Prim.Native.Nat.{ℕ, zero, suc, _≤_, _<_}
 use native.Mathlib.Omega.{arith}
 use lib.ListN.{set}
-use Rattle.rules.specs.Common.{if_then_else_, isAt, inOrder}
-use Rattle.rules.specs.Records.{NONE, Heads, used, tipAt, emptyHead}
+use Rattle.rules.specs.Common.{isAt, inOrder}
+use Rattle.rules.specs.Records.{NONE, Heads, used, emptyHead}
 use Rattle.rules.specs.Admission.{withTips}
-use Rattle.rules.specs.Removal.{listed, headFreed, dropHead}
+use Rattle.rules.specs.Removal.{headFreed, dropHead}
 use Rattle.rules.specs.Promises.{headAt}
 use Rattle.rules.specs.declared.Head.{Head}
-use Rattle.rules.proofs.Splits.{split, same?, and-true}
+use Rattle.rules.proofs.Splits.{split, same?}
 use Rattle.rules.proofs.Kept.Bytes.{zero-length}
-use Rattle.rules.proofs.Kept.Seats.{room, tipOf, inUse, Room, use-lt, Seat, tip-seat, clear, clear-seat, put-head}
+use Rattle.rules.proofs.Kept.Seats.{room, tipOf, Room, Seat, tip-seat, clear, clear-seat, put-head}
 
 module _ (l : List ℕ) (moving : Option ℕ) (p : ℕ) where
   -- what becomes of head s of h

@@ -1,19 +1,17 @@
 -- Tables with all records empty.
-use mathlib.Core.Path.{_≡_, refl, sym, ap, _∙_}
-use mathlib.Core.Logic.{_≢_}
-use mathlib.Core.Bool.{Bool, true, false}
-use mathlib.Core.List.{List}
-use Prim.Native.Nat.{ℕ, _+_, _*_, _≤_, _<_}
+use mathlib.Core.Path.{_≡_, refl, sym, _∙_}
+use mathlib.Core.Bool.{true}
+use Prim.Native.Nat.{ℕ, _+_, _*_, _≤_}
 use native.Mathlib.Omega.{arith}
-use lib.ListN.{length, getD, replicate, length-replicate, getD-replicate, List·getD-eq-default}
+use lib.ListN.{getD, replicate, length-replicate, getD-replicate, List·getD-eq-default}
 use Rattle.rules.specs.Hashes.{hashAt, hashLength, zeroHash}
-use Rattle.rules.specs.Records.{NONE, Blocks, Heads, emptyBlock, emptyHead, blockAt}
+use Rattle.rules.specs.Records.{NONE, emptyBlock, emptyHead, blockAt}
 use Rattle.rules.specs.Rebuild.{emptyBlocks, emptyHeads}
 use Rattle.rules.specs.Promises.{headAt}
 use Rattle.rules.proofs.Splits.{less?}
 use Rattle.rules.proofs.Hashes.{hash-is}
 use Rattle.rules.proofs.Kept.Bytes.{zero-length}
-use Rattle.rules.proofs.Kept.Table.{size, holds, Shape, holds-ne}
+use Rattle.rules.proofs.Kept.Table.{holds, Shape, holds-ne}
 use Rattle.rules.proofs.Kept.Seats.{room, inUse, Room, use-ne}
 
 -- every cell of a list of defaults is the default

@@ -1,14 +1,13 @@
 -- Where a parent walk ends, without a bound on the visits; depth and height of a block; what stands above it.
-use mathlib.Core.Path.{_≡_, refl, sym, ap, _∙_}
-use mathlib.Core.Logic.{_≢_, _⊎_, inl, inr}
-use mathlib.Core.Bool.{Bool, true, false, not, _&&_}
-use Prim.Native.Nat.{ℕ, zero, suc, _≤_, _<_}
+use mathlib.Core.Path.{_≡_, refl}
+use mathlib.Core.Logic.{_≢_}
+use mathlib.Core.Bool.{Bool, true, false, _&&_}
+use Prim.Native.Nat.{ℕ, zero, suc, _<_}
 use native.Mathlib.Omega.{arith}
 use lib.Dec.{eqb, ltb}
-use lib.ListN.{length}
 use borrow.Author.Tests.{ltb-true, eqb-true, lt-ltb, le-ltb, eq-eqb, ne-eqb}
-use Rattle.rules.specs.Common.{if_then_else_, countBelow}
-use Rattle.rules.specs.Records.{NONE, Blocks, occupied, active, slotsOf}
+use Rattle.rules.specs.Common.{countBelow}
+use Rattle.rules.specs.Records.{NONE, Blocks, occupied}
 use Rattle.rules.specs.Anchor.{Anchor, connection, tail, anchorFrom, locateAnchor}
 use Rattle.rules.specs.Promises.{isChild, childrenOf}
 use Rattle.rules.proofs.Splits.{split, same?, and-true, and-false-r, and-both, true-not-false}

@@ -1,25 +1,23 @@
 -- Eviction of a head that is not the active one keeps both tables; a full head table has such a head.
-use mathlib.Core.Path.{_≡_, refl, sym, ap, _∙_}
-use mathlib.Core.Logic.{_≢_, _⊎_, inl, inr}
-use mathlib.Core.Bool.{Bool, true, false, not, _&&_}
+use mathlib.Core.Path.{_≡_, sym, ap, _∙_}
+use mathlib.Core.Logic.{_≢_}
+use mathlib.Core.Bool.{true, not, _&&_}
 use mathlib.Core.List.{List}
-use mathlib.Core.Option.{Option, none, some}
-use Prim.Native.Nat.{ℕ, zero, suc, _≤_, _<_, max}
+use mathlib.Core.Option.{none, some}
+use Prim.Native.Nat.{ℕ, _<_}
 use native.Mathlib.Omega.{arith}
 use lib.Dec.{eqb}
-use borrow.Author.Tests.{eqb-true, eqb-false, eq-eqb, ne-eqb, not-true}
-use Rattle.rules.specs.Common.{best}
-use Rattle.rules.specs.Records.{NONE, Blocks, Heads, Tables, tipAt, slotsOf, occupied, used}
+use borrow.Author.Tests.{eqb-false, ne-eqb, not-true}
+use Rattle.rules.specs.Records.{NONE, Blocks, Heads, tipAt, slotsOf, occupied, used}
 use Rattle.rules.specs.Eviction.{blockBefore, mayGo, victim, evictFrom, evict, evictOne}
 use Rattle.rules.specs.Promises.{childrenOf}
-use Rattle.rules.proofs.Splits.{split, same?, option?, and-true, true-not-false}
+use Rattle.rules.proofs.Splits.{same?, and-true, true-not-false}
 use Rattle.rules.proofs.Kept.Choice.{best-passes, best-none}
-use Rattle.rules.proofs.Kept.Table.{size, seqOf, parentOf, countOf, holds, onChain, Shape, Kept, childless, kids-slots}
-use Rattle.rules.proofs.Kept.Slots.{Voids}
+use Rattle.rules.proofs.Kept.Table.{size, holds, Shape, kids-slots}
 use Rattle.rules.proofs.Kept.Freed.{Owed, Freed, all-freed, freed-kept}
 use Rattle.rules.proofs.Kept.Steady.{freed-leaf, freed-back, freed-active, freed-childless, freed-ends}
-use Rattle.rules.proofs.Kept.Seats.{room, tipOf, inUse, kept, Room, use-lt, head-slots, clear, clear-seat, clear-other, clear-blanks, seat-tip, seat-use, seat-kept}
-use Rattle.rules.proofs.Kept.Frame.{Frame, Good, Apart}
+use Rattle.rules.proofs.Kept.Seats.{room, tipOf, inUse, kept, Room, head-slots, clear, clear-seat, clear-other, clear-blanks, seat-tip, seat-use, seat-kept}
+use Rattle.rules.proofs.Kept.Frame.{Good, Apart}
 
 module _ (t : Blocks) (h : Heads) (top : ℕ) (C : ℕ → Type 0) (g : Good t h top C) (v : ℕ) (uv : inUse h v ≡ true) (nv : tipOf h v ≢ top) where
   abbrev pub evicted : Blocks

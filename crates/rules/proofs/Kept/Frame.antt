@@ -1,21 +1,19 @@
 -- What is kept of both tables; C says of which childless blocks a head is asked.
-use mathlib.Core.Path.{_≡_, refl, sym, ap, _∙_}
-use mathlib.Core.Logic.{_≢_, _⊎_, inl, inr}
-use mathlib.Core.Bool.{Bool, true, false, not, _&&_}
-use mathlib.Core.Option.{Option, none, some}
-use Prim.Native.Nat.{ℕ, suc, _≤_, _<_}
-use native.Mathlib.Omega.{arith}
+use mathlib.Core.Path.{_≡_, refl, sym, _∙_}
+use mathlib.Core.Logic.{_≢_, _⊎_}
+use mathlib.Core.Bool.{true, false, _&&_}
+use mathlib.Core.Option.{none, some}
+use Prim.Native.Nat.{ℕ, _<_}
 use lib.Dec.{eqb}
 use borrow.Author.Tests.{eqb-true, eq-eqb}
-use Rattle.rules.specs.Common.{lowest}
 use Rattle.rules.specs.Records.{NONE, Blocks, Heads, slotsOf}
 use Rattle.rules.specs.Anchor.{Anchor, connection, tail}
 use Rattle.rules.specs.Caches.{slotOfHead}
 use Rattle.rules.specs.Promises.{childrenOf, headAt}
 use Rattle.rules.specs.declared.Head.{Head}
-use Rattle.rules.proofs.Splits.{split, same?, and-true, and-both, true-not-false}
+use Rattle.rules.proofs.Splits.{same?, and-true, and-both, true-not-false}
 use Rattle.rules.proofs.Search.{lowest-holds, lowest-misses}
-use Rattle.rules.proofs.Kept.Table.{size, seqOf, parentOf, countOf, holds, onChain, Shape, Linked, Kept, holds-real}
+use Rattle.rules.proofs.Kept.Table.{parentOf, holds, onChain, Kept, holds-real}
 use Rattle.rules.proofs.Kept.Slots.{Voids}
 use Rattle.rules.proofs.Kept.Ends.{Ends}
 use Rattle.rules.proofs.Kept.Seats.{room, tipOf, inUse, kept, keptBy, Room, use-lt, head-slots, Seat, seat-tip, seat-use, seat-kept, seat-taken, Blanks, seat-blanks}

@@ -1,22 +1,21 @@
 -- The eviction walk as a trace of its visits, and what every walk keeps of the block table.
-use mathlib.Core.Path.{_≡_, refl, sym, ap, _∙_}
-use mathlib.Core.Logic.{_≢_, _⊎_, inl, inr}
-use mathlib.Core.Bool.{Bool, true, false, not, _&&_}
+use mathlib.Core.Path.{_≡_, sym, _∙_}
+use mathlib.Core.Logic.{_≢_, inl, inr}
+use mathlib.Core.Bool.{true, false}
 use Prim.Native.Nat.{ℕ, zero, suc, _-_, _≤_, _<_, max}
 use native.Mathlib.Omega.{arith}
-use lib.Dec.{eqb}
 use lib.IntN.{negsuc}
 use lib.Seq.{set-set}
-use borrow.Author.Tests.{eq-eqb, ne-eqb}
-use Rattle.rules.specs.Common.{if_then_else_, countBelow}
-use Rattle.rules.specs.Records.{NONE, Blocks, occupied, active, putBlock, emptyBlock}
+use borrow.Author.Tests.{ne-eqb}
+use Rattle.rules.specs.Common.{countBelow}
+use Rattle.rules.specs.Records.{Blocks, putBlock}
 use Rattle.rules.specs.BlockTable.{adjusted, adjustCounts, adjust, delete}
 use Rattle.rules.specs.Eviction.{evictFrom}
-use Rattle.rules.specs.Promises.{isChild, childrenOf}
+use Rattle.rules.specs.Promises.{childrenOf}
 use Rattle.rules.proofs.Splits.{split, same?, true-not-false}
 use Rattle.rules.proofs.Kept.Counting.{zero?, count-drop, count-le}
-use Rattle.rules.proofs.Kept.Table.{size, seqOf, parentOf, countOf, holds, onChain, setCount, Shape, Linked, Kept, holds-lt, childless}
-use Rattle.rules.proofs.Kept.Slots.{But, but-seq, but-parent, but-count, but-chain, but-holds, erase, erase-but, erase-empty, erase-kids-other, erase-kids-parent, count-but, count-here, count-kids, Voids, but-voids, erase-voids}
+use Rattle.rules.proofs.Kept.Table.{size, parentOf, countOf, holds, onChain, setCount, Shape, Linked, Kept, holds-lt, childless}
+use Rattle.rules.proofs.Kept.Slots.{but-seq, but-parent, but-count, but-chain, but-holds, erase, erase-but, erase-empty, erase-kids-other, erase-kids-parent, count-but, count-here, count-kids, Voids, but-voids, erase-voids}
 
 -- ---- the walk, case by case
 

@@ -1,25 +1,24 @@
 -- A block is written into an empty slot.
 use mathlib.Core.Path.{_≡_, refl, sym, ap, _∙_}
 use mathlib.Core.Logic.{_≢_, _⊎_, inl, inr}
-use mathlib.Core.Bool.{Bool, true, false, not, _&&_}
+use mathlib.Core.Bool.{true, false}
 use mathlib.Core.List.{List}
-use Prim.Native.Nat.{ℕ, suc, _+_, _≤_, _<_, min}
+use Prim.Native.Nat.{ℕ, suc, _+_, _<_, min}
 use native.Mathlib.Omega.{arith}
-use lib.Dec.{eqb, ltb}
+use lib.Dec.{eqb}
 use lib.IntN.{pos}
-use lib.ListN.{length, getD, set}
+use lib.ListN.{length, set}
 use lib.Seq.{set-set, getD-set-same}
 use borrow.Author.Tests.{eq-eqb, ne-eqb, lt-ltb}
-use Rattle.rules.specs.Common.{if_then_else_}
 use Rattle.rules.specs.Hashes.{hashLength}
 use Rattle.rules.specs.Records.{NONE, Blocks, occupied, active, flagsAt, slotsOf, blockAt, putBlock}
 use Rattle.rules.specs.BlockTable.{adjusted, adjustCounts, adjust, insertAt}
 use Rattle.rules.specs.Calls.{newBlock}
 use Rattle.rules.specs.Promises.{isChild, childrenOf}
 use Rattle.rules.specs.declared.Block.{Block}
-use Rattle.rules.proofs.Splits.{split, same?, true-not-false}
+use Rattle.rules.proofs.Splits.{same?, true-not-false}
 use Rattle.rules.proofs.Kept.Counting.{count-none}
-use Rattle.rules.proofs.Kept.Table.{size, seqOf, parentOf, countOf, hashOf, holds, onChain, Shape, Linked, Kept, ne-holds, empty-eq, holds-ne, kids-slots}
+use Rattle.rules.proofs.Kept.Table.{size, seqOf, parentOf, countOf, hashOf, holds, onChain, Linked, Kept, ne-holds, empty-eq, holds-ne, kids-slots}
 use Rattle.rules.proofs.Kept.Slots.{But, but-seq, but-parent, but-hash, but-chain, but-holds, but-kids, but-gains, put-but, put-here, Voids, but-voids}
 use Rattle.rules.proofs.Kept.Steady.{Steady}
 

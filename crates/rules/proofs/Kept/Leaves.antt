@@ -1,12 +1,12 @@
 -- A block has no more children than there are heads, and one more: each child has a childless block of its own above it.
-use mathlib.Core.Path.{_≡_, refl, sym, ap, _∙_}
+use mathlib.Core.Path.{_≡_, refl, sym, _∙_}
 use mathlib.Core.Logic.{_≢_, _⊎_, inl, inr}
-use mathlib.Core.Bool.{Bool, true, false, not, _&&_}
-use Prim.Native.Nat.{ℕ, zero, suc, _≤_, _<_}
+use mathlib.Core.Bool.{true}
+use Prim.Native.Nat.{ℕ, suc, _≤_, _<_}
 use native.Mathlib.Omega.{arith}
 use lib.Dec.{eqb}
 use borrow.Author.Tests.{eqb-true}
-use Rattle.rules.specs.Records.{NONE, Blocks, Heads, occupied, used}
+use Rattle.rules.specs.Records.{NONE, Blocks, Heads, occupied}
 use Rattle.rules.specs.Promises.{isChild, childrenOf}
 use Rattle.rules.proofs.Splits.{split, same?, and-true}
 use Rattle.rules.proofs.Kept.Counting.{count-le, count-rel}

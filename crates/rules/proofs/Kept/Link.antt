@@ -1,21 +1,21 @@
 -- A late tail is linked to the new block: one parent cell changes from NONE.
 use mathlib.Core.Path.{_≡_, refl, sym, ap, _∙_}
-use mathlib.Core.Logic.{_≢_, _⊎_, inl, inr}
-use mathlib.Core.Bool.{Bool, true, false, not, _&&_}
-use mathlib.Core.Option.{Option, none, some}
-use Prim.Native.Nat.{ℕ, suc, _≤_, _<_, max}
+use mathlib.Core.Logic.{_≢_, inl, inr}
+use mathlib.Core.Bool.{true, false, not}
+use mathlib.Core.Option.{none}
+use Prim.Native.Nat.{ℕ, suc}
 use native.Mathlib.Omega.{arith}
 use lib.Dec.{eqb}
 use borrow.Author.Tests.{eq-eqb, ne-eqb}
 use Rattle.rules.specs.Records.{NONE, Blocks, Heads}
-use Rattle.rules.specs.Anchor.{Anchor, connection, tail}
+use Rattle.rules.specs.Anchor.{Anchor, tail}
 use Rattle.rules.specs.Caches.{slotOfHead}
 use Rattle.rules.specs.Promises.{isChild, childrenOf}
-use Rattle.rules.proofs.Splits.{split, same?, true-not-false, and-false-r}
-use Rattle.rules.proofs.Kept.Table.{size, seqOf, parentOf, countOf, holds, onChain, setCount, setParent, Shape, Linked, Kept, holds-lt, holds-ne, holds-real}
+use Rattle.rules.proofs.Splits.{same?, and-false-r}
+use Rattle.rules.proofs.Kept.Table.{seqOf, parentOf, countOf, holds, onChain, setCount, setParent, Shape, Linked, holds-lt, holds-ne, holds-real}
 use Rattle.rules.proofs.Kept.Slots.{But, but-parent, but-count, but-kids, but-gains, count-but, count-here, count-kids, parent-but, parent-here, Voids, but-voids}
 use Rattle.rules.proofs.Kept.Ends.{Ends, at-active, at-root, goes-on}
-use Rattle.rules.proofs.Kept.Seats.{room, tipOf, inUse, kept, clear, clear-seat, clear-other, clear-blanks, seat-tip, seat-use}
+use Rattle.rules.proofs.Kept.Seats.{tipOf, inUse, kept, clear, clear-seat, clear-other, clear-blanks, seat-tip, seat-use}
 use Rattle.rules.proofs.Kept.Frame.{Frame, Late, Apt, All, Chained, head-none, anchor?}
 
 -- the tail T waits for x

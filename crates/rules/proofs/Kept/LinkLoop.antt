@@ -1,26 +1,24 @@
 -- The late tails are linked, head by head (01, "Admission").
 use mathlib.Core.Path.{_≡_, refl, sym, ap, _∙_}
-use mathlib.Core.Logic.{_≢_, _⊎_, inl, inr}
-use mathlib.Core.Bool.{Bool, true, false, not, _&&_}
+use mathlib.Core.Logic.{inl, inr}
+use mathlib.Core.Bool.{true, false, not, _&&_}
 use mathlib.Core.List.{List}
-use mathlib.Core.Option.{Option, none, some}
-use Prim.Native.Nat.{ℕ, zero, suc, _≤_, _<_, max}
+use mathlib.Core.Option.{none, some}
+use Prim.Native.Nat.{ℕ, zero, suc, _<_}
 use native.Mathlib.Omega.{arith}
 use lib.Dec.{eqb}
-use lib.ListN.{set}
 use borrow.Author.Tests.{eqb-true}
-use Rattle.rules.specs.Common.{if_then_else_, inOrder}
+use Rattle.rules.specs.Common.{inOrder}
 use Rattle.rules.specs.Records.{NONE, Blocks, Heads, Tables, tailAt}
 use Rattle.rules.specs.BlockTable.{resolveParent}
 use Rattle.rules.specs.Caches.{slotOfHead}
 use Rattle.rules.specs.Admission.{misses, late, joined, link, linkLate}
-use Rattle.rules.specs.Promises.{childrenOf, headAt}
 use Rattle.rules.specs.declared.Head.{Head}
 use Rattle.rules.proofs.Splits.{split, option?, and-true}
-use Rattle.rules.proofs.Kept.Table.{size, seqOf, parentOf, countOf, holds, onChain, setCount, setParent, Shape, holds-real}
+use Rattle.rules.proofs.Kept.Table.{seqOf, parentOf, countOf, holds, onChain, setCount, setParent, holds-real}
 use Rattle.rules.proofs.Kept.Slots.{count-but, parent-but}
 use Rattle.rules.proofs.Kept.Steady.{Steady, steady-trans, but-steady, ends-same}
-use Rattle.rules.proofs.Kept.Seats.{room, tipOf, inUse, kept, clear, clear-seat, clear-other, seat-tip}
+use Rattle.rules.proofs.Kept.Seats.{tipOf, kept, clear, clear-seat, clear-other, seat-tip}
 use Rattle.rules.proofs.Kept.Frame.{Frame, Late, Apt, All, head-some}
 use Rattle.rules.proofs.Kept.Leaves.{children-bound}
 use Rattle.rules.proofs.Kept.Arrive.{raise, raised, raise-suc}

@@ -1,16 +1,14 @@
 -- Lists of calls: the promises go from call to call, and the log grows by each.
 use mathlib.Core.Path.{_≡_, refl, sym, ap, _∙_}
-use mathlib.Core.Logic.{_≢_, _⊎_, inl, inr, _↔_}
-use mathlib.Core.Bool.{Bool, true, false}
+use mathlib.Core.Logic.{_⊎_, inl, inr}
 use mathlib.Core.List.{List, [], _∷_, _++_, append-nil, append-assoc}
-use mathlib.Core.Option.{Option, none, some}
-use Prim.Native.Nat.{ℕ, zero, suc, _≤_, _<_}
+use mathlib.Core.Option.{Option, none}
+use Prim.Native.Nat.{ℕ}
 use native.Mathlib.Omega.{arith}
 use lib.ListN.{length}
 use Rattle.rules.specs.Common.{if_then_else_, isAt}
-use Rattle.rules.specs.Answers.{Answer}
-use Rattle.rules.specs.Calls.{State, Stepped, Call, admitCall, promoteCall, removeCall, timerCall, restartCall, step, run}
-use Rattle.rules.specs.Promises.{Occupied, Active, Name, name, Made, made, Accepted, Promoted, accepts, later, slotReturned, nameGiven, lastAdmitted, Sound, Recorded, Promise}
+use Rattle.rules.specs.Calls.{State, Call, admitCall, promoteCall, removeCall, timerCall, restartCall, step, run}
+use Rattle.rules.specs.Promises.{Active, Name, name, Made, made, Accepted, Promoted, accepts, later, slotReturned, nameGiven, lastAdmitted, Sound, Recorded, Promise}
 use Rattle.rules.proofs.Kept.Went.{Went}
 use Rattle.rules.proofs.Kept.Steps.{went-remove, went-restart, went-timer}
 use Rattle.rules.proofs.Kept.PromoteStep.{went-promote}

@@ -1,23 +1,22 @@
 -- The subtree that removal marks: the root, and of the others those whose parent is marked.
-use mathlib.Core.Path.{_≡_, refl, sym, ap, _∙_}
+use mathlib.Core.Path.{_≡_, refl, sym, _∙_}
 use mathlib.Core.Logic.{_≢_}
-use mathlib.Core.Bool.{Bool, true, false, not, _&&_}
+use mathlib.Core.Bool.{Bool, true, false, _&&_}
 use mathlib.Core.List.{List, [], _∷_, _++_}
-use mathlib.Core.Option.{Option, none, some}
-use Prim.Native.Nat.{ℕ, zero, suc, _+_, _≤_, _<_}
+use Prim.Native.Nat.{ℕ, zero, suc, _+_, _<_}
 use native.Mathlib.Omega.{arith}
 use lib.Dec.{eqb}
-use borrow.Author.Tests.{eqb-true, eq-eqb, ne-eqb}
+use borrow.Author.Tests.{eqb-true, eq-eqb}
 use Rattle.rules.specs.Common.{if_then_else_, isSome, lowest, allBelow}
 use Rattle.rules.specs.Records.{NONE, Blocks, slotsOf}
 use Rattle.rules.specs.BlockTable.{reaches, inSubtree, markSubtree}
 use Rattle.rules.specs.Removal.{listed}
 use Rattle.rules.specs.Calls.{holdsActive}
-use Rattle.rules.proofs.Splits.{split, same?, less?, option?, and-true, and-both, true-not-false}
-use Rattle.rules.proofs.Search.{lowest-misses, all-passes, all-fails, all-none}
+use Rattle.rules.proofs.Splits.{split, same?, option?, and-true, true-not-false}
+use Rattle.rules.proofs.Search.{lowest-misses, all-fails}
 use Rattle.rules.proofs.Walks.{reaches-root, reaches-end, reaches-up}
 use Rattle.rules.proofs.Kept.Counting.{zero?}
-use Rattle.rules.proofs.Kept.Table.{size, seqOf, parentOf, holds, onChain, Shape, Linked, holds-lt, holds-real, kids-slots, parent-there}
+use Rattle.rules.proofs.Kept.Table.{size, parentOf, holds, onChain, Shape, Linked, holds-lt, holds-real, kids-slots, parent-there}
 use Rattle.rules.proofs.Kept.Ends.{depth, depth-falls, depth-lt, Above, here, up}
 use Rattle.rules.proofs.Kept.Leaves.{above-holds}
 

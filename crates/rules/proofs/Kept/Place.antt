@@ -3,26 +3,23 @@ use mathlib.Core.Path.{_≡_, refl, sym, ap, _∙_}
 use mathlib.Core.Logic.{_≢_}
 use mathlib.Core.Bool.{Bool, true, false, not}
 use mathlib.Core.List.{List}
-use mathlib.Core.Option.{Option, none, some}
-use Prim.Native.Nat.{ℕ, suc, _≤_, _<_}
-use native.Mathlib.Omega.{arith}
+use mathlib.Core.Option.{none, some}
+use Prim.Native.Nat.{ℕ, _<_}
 use borrow.Author.Tests.{not-true, not-false}
-use Rattle.rules.specs.Common.{lowest}
-use Rattle.rules.specs.Hashes.{zeroHash}
 use Rattle.rules.specs.Records.{NONE, Blocks, Heads, Tables, slotsOf, putHead}
 use Rattle.rules.specs.Caches.{recomputeHead}
-use Rattle.rules.specs.Eviction.{victim, evictFrom, evictOne}
+use Rattle.rules.specs.Eviction.{victim, evictFrom}
 use Rattle.rules.specs.Admission.{firstEmpty, newHead, seatHead, makeRoom, insertHead}
 use Rattle.rules.specs.Promises.{childrenOf}
-use Rattle.rules.proofs.Splits.{split, same?, option?, true-not-false}
+use Rattle.rules.proofs.Splits.{same?, option?, true-not-false}
 use Rattle.rules.proofs.Search.{lowest-holds, lowest-misses}
 use Rattle.rules.proofs.Kept.Bytes.{zero-length}
-use Rattle.rules.proofs.Kept.Table.{size, holds, onChain, Shape, holds-real}
-use Rattle.rules.proofs.Kept.Ends.{Ends, located, anchor-ends}
+use Rattle.rules.proofs.Kept.Table.{size, holds, onChain, Shape}
+use Rattle.rules.proofs.Kept.Ends.{located, anchor-ends}
 use Rattle.rules.proofs.Kept.Freed.{Freed}
 use Rattle.rules.proofs.Kept.Steady.{Steady, steady-refl, steady-trans, freed-leaf, freed-back, freed-steady, freed-size}
 use Rattle.rules.proofs.Kept.Seats.{room, tipOf, inUse, kept, Room, use-lt, head-slots, Seat, seat-tip, seat-use, put-seat, clear, clear-seat, clear-here, clear-other, recompute-seat, recompute-kept}
-use Rattle.rules.proofs.Kept.Frame.{Frame, Good, seat-frame, seat-good}
+use Rattle.rules.proofs.Kept.Frame.{Good, seat-good}
 use Rattle.rules.proofs.Kept.EvictHead.{trace, evict-good, victim-some, victim-there, evict-one}
 
 -- ---- the caches of a head that has got a tip

@@ -1,20 +1,18 @@
 -- Promotion keeps both tables (01, "Promotion").
-use mathlib.Core.Path.{_≡_, refl, sym, ap, _∙_, subst}
+use mathlib.Core.Path.{_≡_, refl, sym, _∙_, subst}
 use mathlib.Core.Logic.{_≢_, _⊎_, inl, inr}
-use mathlib.Core.Bool.{Bool, true, false}
-use Prim.Native.Nat.{ℕ, zero, suc, _+_, _*_, _/_, _%_, _≤_, _<_, max}
+use mathlib.Core.Bool.{true, false}
+use Prim.Native.Nat.{ℕ, zero, suc, _+_, _*_, _/_, _%_, _<_}
 use native.Mathlib.Omega.{arith}
-use lib.Dec.{eqb}
-use lib.ListN.{getD, set, length-set}
+use lib.ListN.{set, length-set}
 use lib.Seq.{getD-set-same, getD-set-other, set-set}
 use borrow.Author.Tests.{eq-eqb}
-use Rattle.rules.specs.Common.{if_then_else_}
 use Rattle.rules.specs.Records.{NONE, Blocks, Heads, active, flagsAt, withBit0, withStatus, blockAt}
 use Rattle.rules.specs.BlockTable.{setOccupied, setOnActiveChain, setStatus, withFlags}
 use Rattle.rules.specs.Promotion.{activate}
 use Rattle.rules.specs.Promises.{childrenOf}
-use Rattle.rules.proofs.Splits.{split, same?, true-not-false}
-use Rattle.rules.proofs.Kept.Table.{size, seqOf, parentOf, countOf, holds, onChain, Shape, holds-lt, holds-real, parent-there}
+use Rattle.rules.proofs.Splits.{same?, true-not-false}
+use Rattle.rules.proofs.Kept.Table.{seqOf, parentOf, holds, onChain, Shape, holds-lt, holds-real, parent-there}
 use Rattle.rules.proofs.Kept.Slots.{But, but-chain, but-voids}
 use Rattle.rules.proofs.Kept.Ends.{height, height-falls}
 use Rattle.rules.proofs.Kept.Frame.{Frame, All}

@@ -1,21 +1,20 @@
 -- Promotion as a call of a list.
 use mathlib.Core.Path.{_≡_, refl, sym, ap, _∙_}
 use mathlib.Core.Logic.{_≢_, _⊎_, inl, inr}
-use mathlib.Core.Bool.{Bool, true, false, not, _||_}
-use Prim.Native.Nat.{ℕ, suc, _≤_, _<_}
+use mathlib.Core.Bool.{Bool, true, false, _||_}
+use Prim.Native.Nat.{ℕ}
 use native.Mathlib.Omega.{arith}
 use lib.Dec.{eqb}
 use borrow.Author.Tests.{eqb-true}
-use Rattle.rules.specs.Common.{if_then_else_, isAt}
-use Rattle.rules.specs.Records.{NONE, Blocks, Heads, Tables}
+use Rattle.rules.specs.Records.{NONE, Blocks}
 use Rattle.rules.specs.Caches.{recomputeHeads}
-use Rattle.rules.specs.Promotion.{activate, promoted}
-use Rattle.rules.specs.Answers.{Answer, refused, done}
-use Rattle.rules.specs.Calls.{State, Stepped, Call, promoteCall, answering, shaped, isNext, promote}
-use Rattle.rules.specs.Promises.{sequence, parent, Occupied, Active, OnLine, start, down, name, Accepted, Sound}
+use Rattle.rules.specs.Promotion.{promoted}
+use Rattle.rules.specs.Answers.{done}
+use Rattle.rules.specs.Calls.{State, promoteCall, answering, isNext, promote}
+use Rattle.rules.specs.Promises.{parent, Active, OnLine, start, down, Sound}
 use Rattle.rules.proofs.Splits.{split, same?, true-not-false}
-use Rattle.rules.proofs.Kept.Table.{parentOf, holds, onChain, Shape, holds-ne, ne-holds, none-empty}
-use Rattle.rules.proofs.Kept.Frame.{Frame, Good, All}
+use Rattle.rules.proofs.Kept.Table.{parentOf, holds, Shape, holds-ne, ne-holds, none-empty}
+use Rattle.rules.proofs.Kept.Frame.{Frame, All}
 use Rattle.rules.proofs.Kept.Recomputed.{recomputed}
 use Rattle.rules.proofs.Kept.Promote.{setFlags, lit, activate-is, lit-here, lit-other, promote-frame}
 use Rattle.rules.proofs.Kept.Walked.{blocksOf, headsOf, active-on, on-active}

@@ -1,14 +1,10 @@
 -- Restart keeps both tables (01, "Rebuild").
-use mathlib.Core.Path.{_≡_, refl, sym, ap, _∙_}
-use mathlib.Core.Logic.{_≢_}
-use mathlib.Core.Bool.{Bool, true, false, not, _&&_}
-use mathlib.Core.List.{List}
+use mathlib.Core.Path.{_≡_, refl, sym, _∙_}
+use mathlib.Core.Bool.{Bool, true, false, _&&_}
 use Prim.Native.Nat.{ℕ, zero, suc, _≤_, _<_}
 use native.Mathlib.Omega.{arith}
-use lib.Dec.{eqb}
-use lib.ListN.{length}
 use borrow.Author.Tests.{eqb-true, eq-eqb}
-use Rattle.rules.specs.Common.{if_then_else_, inOrder}
+use Rattle.rules.specs.Common.{inOrder}
 use Rattle.rules.specs.Hashes.{zeroHash}
 use Rattle.rules.specs.Records.{NONE, Blocks, Heads, Tables, slotsOf}
 use Rattle.rules.specs.BlockTable.{childless, children}
@@ -17,12 +13,12 @@ use Rattle.rules.specs.Removal.{recounted}
 use Rattle.rules.specs.Rebuild.{emptyHeads, rebuildAt, rebuildHeads, rebuilt, restarted}
 use Rattle.rules.specs.Promises.{childrenOf}
 use Rattle.rules.proofs.Splits.{split, same?, and-true, true-not-false}
-use Rattle.rules.proofs.Kept.Table.{size, seqOf, parentOf, countOf, holds, onChain, Shape, Kept, holds-lt, holds-real, kids-slots}
-use Rattle.rules.proofs.Kept.Steady.{Steady, steady-refl, steady-trans, ends-same}
-use Rattle.rules.proofs.Kept.Seats.{room, tipOf, inUse, kept, Room}
+use Rattle.rules.proofs.Kept.Table.{size, holds, onChain, holds-lt, holds-real, kids-slots}
+use Rattle.rules.proofs.Kept.Steady.{Steady, steady-trans, ends-same}
+use Rattle.rules.proofs.Kept.Seats.{room, tipOf, inUse, kept}
 use Rattle.rules.proofs.Kept.Frame.{Frame, Good, All}
 use Rattle.rules.proofs.Kept.Leaves.{children-bound}
-use Rattle.rules.proofs.Kept.Place.{New, Done, insert-done}
+use Rattle.rules.proofs.Kept.Place.{insert-done}
 use Rattle.rules.proofs.Kept.Sweep.{kids-are, recounted-kids, recounted-voids, recounted-kept}
 use Rattle.rules.proofs.Kept.Empty.{no-head, none-used, empty-room}
 

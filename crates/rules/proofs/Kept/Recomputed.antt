@@ -1,16 +1,15 @@
 -- All caches worked out: from any kept tables every anchor is right afterwards.
-use mathlib.Core.Path.{_≡_, refl, sym, ap, _∙_}
-use mathlib.Core.Logic.{_≢_, _⊎_, inl, inr}
-use mathlib.Core.Bool.{Bool, true, false}
-use mathlib.Core.List.{List}
-use Prim.Native.Nat.{ℕ, zero, suc, _≤_, _<_}
+use mathlib.Core.Path.{_≡_, refl, ap, _∙_}
+use mathlib.Core.Logic.{inl, inr}
+use mathlib.Core.Bool.{true}
+use Prim.Native.Nat.{ℕ, zero, suc}
 use native.Mathlib.Omega.{arith}
 use Rattle.rules.specs.Common.{if_then_else_, inOrder}
 use Rattle.rules.specs.Hashes.{zeroHash}
 use Rattle.rules.specs.Records.{NONE, Blocks, Heads, used, slotsOf}
-use Rattle.rules.specs.Caches.{Caches, caches, withCaches, recompute, recomputeUsed, recomputeAll, recomputeHead, recomputeHeads}
+use Rattle.rules.specs.Caches.{Caches, caches, withCaches, recomputeUsed, recomputeAll, recomputeHead, recomputeHeads}
 use Rattle.rules.proofs.Splits.{split}
-use Rattle.rules.proofs.Kept.Seats.{room, inUse, head-slots}
+use Rattle.rules.proofs.Kept.Seats.{inUse, head-slots}
 use Rattle.rules.proofs.Kept.Frame.{Frame, Good}
 use Rattle.rules.proofs.Kept.Settle.{Redone, Turn, redone, loop-good}
 

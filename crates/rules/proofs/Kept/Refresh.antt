@@ -1,25 +1,23 @@
 -- Admission's last steps: the heads that missed the hash, and admit's added refresh, are turns that leave every anchor right.
-use mathlib.Core.Path.{_≡_, refl, sym, ap, _∙_}
-use mathlib.Core.Logic.{_≢_, _⊎_, inl, inr}
+use mathlib.Core.Path.{_≡_, refl}
+use mathlib.Core.Logic.{inl, inr}
 use mathlib.Core.Bool.{Bool, true, false, not, _&&_}
 use mathlib.Core.List.{List}
-use mathlib.Core.Option.{Option, none, some}
-use Prim.Native.Nat.{ℕ, suc, _≤_, _<_}
+use Prim.Native.Nat.{ℕ}
 use native.Mathlib.Omega.{arith}
 use lib.Dec.{eqb}
 use lib.ListN.{getD}
 use borrow.Author.Tests.{ne-eqb}
-use Rattle.rules.specs.Common.{if_then_else_, inOrder}
+use Rattle.rules.specs.Common.{inOrder}
 use Rattle.rules.specs.Hashes.{hashAt, sameHash, zeroHash}
-use Rattle.rules.specs.Records.{NONE, Blocks, Heads, Tables, tailAt, used, stored, isConnected, bit0, slotsOf}
-use Rattle.rules.specs.Anchor.{Anchor, connection, tail}
+use Rattle.rules.specs.Records.{NONE, Blocks, Heads, Tables, tailAt, stored, isConnected, bit0, slotsOf}
+use Rattle.rules.specs.Anchor.{tail}
 use Rattle.rules.specs.Caches.{caches, withCaches, slotOfHead, refreshHead, recomputeHead}
 use Rattle.rules.specs.Admission.{misses, recomputeMissed, recomputeMissing, outgrown, refreshOutgrown, refreshTails}
 use Rattle.rules.specs.Promises.{headAt}
-use Rattle.rules.specs.declared.Head.{Head}
-use Rattle.rules.proofs.Splits.{split, option?, and-true, true-not-false}
+use Rattle.rules.proofs.Splits.{split, option?, and-true}
 use Rattle.rules.proofs.Kept.Table.{holds, parentOf}
-use Rattle.rules.proofs.Kept.Seats.{room, tipOf, inUse, kept, keptBy, anchorOf, Room, head-slots}
+use Rattle.rules.proofs.Kept.Seats.{tipOf, inUse, keptBy, anchorOf, head-slots}
 use Rattle.rules.proofs.Kept.Frame.{Frame, Good, Late, Apt, head-some, head-none}
 use Rattle.rules.proofs.Kept.Settle.{Redone, Turn, redone, loop-frame, loop-apt, loop-good}
 

@@ -3,32 +3,32 @@ use mathlib.Core.Path.{_≡_, refl, sym, ap, _∙_}
 use mathlib.Core.Logic.{_≢_, _⊎_, inl, inr}
 use mathlib.Core.Bool.{Bool, true, false, not, _&&_}
 use mathlib.Core.List.{List}
-use mathlib.Core.Option.{Option, none, some}
-use Prim.Native.Nat.{ℕ, zero, suc, _%_, _≤_, _<_, max}
+use mathlib.Core.Option.{Option, none}
+use Prim.Native.Nat.{ℕ, suc, _%_, _≤_, _<_}
 use native.Mathlib.Omega.{arith}
 use lib.Dec.{eqb}
 use borrow.Author.Tests.{eqb-true, eq-eqb, not-true}
-use Rattle.rules.specs.Common.{if_then_else_, isSome, isAt, lowest, inOrder}
+use Rattle.rules.specs.Common.{isSome, isAt, lowest}
 use Rattle.rules.specs.Records.{NONE, Blocks, Heads, Tables, occupied, active, slotsOf, blockAt, used, emptyHead}
 use Rattle.rules.specs.BlockTable.{childless, children, markSubtree}
-use Rattle.rules.specs.Caches.{slotOfHead, recomputeHeads}
-use Rattle.rules.specs.Removal.{recounted, listed, headFreed, takesOver, heir, dropHead, dropHeads, blocksDeleted, freeAll, removed}
+use Rattle.rules.specs.Caches.{slotOfHead}
+use Rattle.rules.specs.Removal.{recounted, listed, headFreed, takesOver, heir, dropHeads, blocksDeleted, freeAll, removed}
 use Rattle.rules.specs.Calls.{holdsActive}
 use Rattle.rules.specs.Promises.{isChild, childrenOf, headAt}
 use Rattle.rules.specs.declared.Block.{Block}
 use Rattle.rules.specs.declared.Head.{Head}
-use Rattle.rules.proofs.Splits.{split, same?, less?, option?, and-true, and-both, true-not-false, some-not-none}
-use Rattle.rules.proofs.Search.{lowest-holds, lowest-misses, lowest-found}
+use Rattle.rules.proofs.Splits.{split, same?, less?, option?, and-true, and-both, true-not-false}
+use Rattle.rules.proofs.Search.{lowest-holds, lowest-found}
 use Rattle.rules.proofs.Kept.Counting.{zero?, count-mono}
 use Rattle.rules.proofs.Kept.Table as table
-use Rattle.rules.proofs.Kept.Table.{size, seqOf, parentOf, countOf, hashOf, holds, onChain, Shape, Linked, Kept, holds-lt, holds-ne, ne-holds, holds-real, parent-there}
+use Rattle.rules.proofs.Kept.Table.{size, seqOf, parentOf, hashOf, holds, onChain, Shape, Linked, holds-real, parent-there}
 use Rattle.rules.proofs.Kept.Ends.{leaf, height, some-child}
 use Rattle.rules.proofs.Kept.Steady.{Steady}
-use Rattle.rules.proofs.Kept.Seats.{room, tipOf, inUse, Room, use-lt, use-ne, ne-use, head-slots, Blanks}
+use Rattle.rules.proofs.Kept.Seats.{room, tipOf, inUse, use-lt, use-ne, ne-use, head-slots, Blanks}
 use Rattle.rules.proofs.Kept.Frame.{Frame, Good, All, Chained, head-some, head-none}
 use Rattle.rules.proofs.Kept.Leaves.{children-bound}
 use Rattle.rules.proofs.Kept.Recomputed.{recomputed}
-use Rattle.rules.proofs.Kept.Mark.{mark, mark-holds, mark-root, mark-parent, mark-above, mark-listed, mark-off}
+use Rattle.rules.proofs.Kept.Mark.{mark, mark-root, mark-parent, mark-above, mark-listed, mark-off}
 use Rattle.rules.proofs.Kept.Sweep.{Swept, swept, kids-are, recounted-kids, recounted-voids, recounted-kept}
 use Rattle.rules.proofs.Kept.Drop.{Cell, moved, emptied, left, Dropped, dropped}
 

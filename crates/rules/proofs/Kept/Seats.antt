@@ -1,23 +1,22 @@
 -- The head table as the proofs read it: one head changes and the others stay.
 use mathlib.Core.Path.{_≡_, refl, sym, ap, _∙_}
 use mathlib.Core.Logic.{_≢_}
-use mathlib.Core.Bool.{Bool, true, false, not}
+use mathlib.Core.Bool.{Bool, true, false}
 use mathlib.Core.List.{List}
-use Prim.Native.Nat.{ℕ, suc, _+_, _*_, _/_, _%_, _≤_, _<_}
+use Prim.Native.Nat.{ℕ, _+_, _*_, _/_, _%_, _≤_, _<_}
 use native.Mathlib.Omega.{arith}
 use lib.Dec.{eqb}
 use lib.ListN.{length, getD, set, length-set, List·getD-eq-default}
 use lib.Seq.{getD-set-same, getD-set-other}
 use borrow.Author.Tests.{eqb-true, eqb-false, eq-eqb, ne-eqb, not-true, not-false}
-use Rattle.rules.specs.Common.{if_then_else_}
-use Rattle.rules.specs.Hashes.{hashLength, hashAt, putHash, zeroHash}
-use Rattle.rules.specs.Records.{NONE, Blocks, Heads, tipAt, tailAt, used, slotsOf, isConnected, bit0, withBit0, emptyHead, putHead}
+use Rattle.rules.specs.Hashes.{hashLength, hashAt, zeroHash}
+use Rattle.rules.specs.Records.{NONE, Blocks, Heads, tipAt, used, slotsOf, bit0, withBit0, emptyHead, putHead}
 use Rattle.rules.specs.Anchor.{Anchor, connection, tail}
-use Rattle.rules.specs.Caches.{Caches, caches, withCaches, keep, recompute, recomputeHead, knowing, missingPart}
+use Rattle.rules.specs.Caches.{caches, withCaches, keep, recompute, recomputeHead, knowing, missingPart}
 use Rattle.rules.specs.Admission.{withTips, withArrivals}
 use Rattle.rules.specs.Promises.{headAt}
 use Rattle.rules.specs.declared.Head.{Head}
-use Rattle.rules.proofs.Splits.{split, same?, less?, true-not-false}
+use Rattle.rules.proofs.Splits.{same?, less?, true-not-false}
 use Rattle.rules.proofs.Cells.{getD-set-default}
 use Rattle.rules.proofs.Kept.Bytes.{put-hash-other, put-hash-here, put-hash-length, zero-length, hash-length}
 use Rattle.rules.proofs.Kept.Ends.{located}

@@ -1,18 +1,16 @@
 -- The caches are worked out again, head by head.
-use mathlib.Core.Path.{_≡_, refl, sym, ap, _∙_}
+use mathlib.Core.Path.{_≡_, refl, sym, _∙_}
 use mathlib.Core.Logic.{_≢_, _⊎_, inl, inr}
-use mathlib.Core.Bool.{Bool, true, false}
+use mathlib.Core.Bool.{true}
 use mathlib.Core.List.{List}
 use Prim.Native.Nat.{ℕ, zero, suc, _≤_, _<_}
 use native.Mathlib.Omega.{arith}
 use Rattle.rules.specs.Common.{inOrder}
-use Rattle.rules.specs.Records.{NONE, Blocks, Heads}
-use Rattle.rules.specs.Anchor.{Anchor, connection, tail}
+use Rattle.rules.specs.Records.{Blocks, Heads}
 use Rattle.rules.specs.Caches.{recomputeHead}
-use Rattle.rules.specs.Promises.{childrenOf, headAt}
+use Rattle.rules.specs.Promises.{headAt}
 use Rattle.rules.specs.declared.Head.{Head}
 use Rattle.rules.proofs.Splits.{same?}
-use Rattle.rules.proofs.Kept.Table.{holds, onChain, parentOf}
 use Rattle.rules.proofs.Kept.Ends.{Ends, located, anchor-ends}
 use Rattle.rules.proofs.Kept.Seats.{room, tipOf, inUse, kept, use-lt, Seat, seat-tip, seat-use, seat-kept, seat-taken, use-ne, recompute-seat, recompute-kept}
 use Rattle.rules.proofs.Kept.Frame.{Frame, Good, Apt, seat-frame}

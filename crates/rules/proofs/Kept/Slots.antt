@@ -1,23 +1,22 @@
 -- One block slot changes and the others stay: stores of a whole block, of a count, of a parent.
 use mathlib.Core.Path.{_≡_, refl, sym, ap, _∙_}
-use mathlib.Core.Logic.{_≢_, _⊎_, inl, inr}
-use mathlib.Core.Bool.{Bool, true, false, not, _&&_}
-use mathlib.Core.List.{List}
-use Prim.Native.Nat.{ℕ, suc, _+_, _*_, _≤_, _<_, max}
+use mathlib.Core.Logic.{_≢_}
+use mathlib.Core.Bool.{true, false, not}
+use Prim.Native.Nat.{ℕ, suc, _<_}
 use native.Mathlib.Omega.{arith}
 use lib.Dec.{eqb}
-use lib.ListN.{length, getD, set, length-set}
+use lib.ListN.{length, length-set}
 use lib.Seq.{getD-set-same, getD-set-other}
 use borrow.Author.Tests.{eq-eqb, ne-eqb}
-use Rattle.rules.specs.Hashes.{hashLength, hashAt, putHash}
+use Rattle.rules.specs.Hashes.{hashLength}
 use Rattle.rules.specs.Records.{NONE, Blocks, occupied, active, flagsAt, emptyBlock, blockAt, putBlock}
 use Rattle.rules.specs.Promises.{isChild, childrenOf}
 use Rattle.rules.specs.declared.Block.{Block}
-use Rattle.rules.proofs.Splits.{split, same?, true-not-false, and-false-r}
+use Rattle.rules.proofs.Splits.{same?, true-not-false, and-false-r}
 use Rattle.rules.proofs.Cells.{getD-set-default}
 use Rattle.rules.proofs.Kept.Counting.{count-ext, count-drop}
 use Rattle.rules.proofs.Kept.Bytes.{put-hash-other, put-hash-here, put-hash-length, zero-length}
-use Rattle.rules.proofs.Kept.Table.{size, seqOf, parentOf, countOf, hashOf, holds, onChain, setCount, setParent, Shape, Linked, holds-lt, holds-ne, childless}
+use Rattle.rules.proofs.Kept.Table.{size, seqOf, parentOf, countOf, hashOf, holds, onChain, setCount, setParent, Shape, holds-lt}
 
 -- u is t but for slot i
 pub record But (t u : Blocks) (i : ℕ) : Type 0 where

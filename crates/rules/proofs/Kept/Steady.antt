@@ -1,14 +1,14 @@
 -- What a change of the block table carries over: names of blocks, active blocks, ends of walks; and that eviction does.
-use mathlib.Core.Path.{_≡_, refl, sym, ap, _∙_}
-use mathlib.Core.Logic.{_≢_, _⊎_, inl, inr}
-use mathlib.Core.Bool.{Bool, true, false}
-use Prim.Native.Nat.{ℕ, zero, suc, _≤_, _<_, max}
+use mathlib.Core.Path.{_≡_, refl, sym, _∙_}
+use mathlib.Core.Logic.{_≢_}
+use mathlib.Core.Bool.{true, false}
+use Prim.Native.Nat.{ℕ}
 use native.Mathlib.Omega.{arith}
-use Rattle.rules.specs.Records.{NONE, Blocks, occupied, active}
-use Rattle.rules.specs.Anchor.{Anchor, connection, tail}
+use Rattle.rules.specs.Records.{NONE, Blocks}
+use Rattle.rules.specs.Anchor.{Anchor}
 use Rattle.rules.specs.Promises.{childrenOf}
-use Rattle.rules.proofs.Splits.{split, same?, true-not-false}
-use Rattle.rules.proofs.Kept.Table.{size, seqOf, parentOf, countOf, hashOf, holds, onChain, setCount, Shape, holds-lt, holds-real, childless}
+use Rattle.rules.proofs.Splits.{same?, true-not-false}
+use Rattle.rules.proofs.Kept.Table.{size, seqOf, parentOf, hashOf, holds, onChain, setCount, Shape, holds-real, childless}
 use Rattle.rules.proofs.Kept.Slots.{But, but-seq, but-parent, but-hash, but-chain, but-holds, erase, erase-but, erase-empty, erase-kids-other, erase-kids-parent, count-kids}
 use Rattle.rules.proofs.Kept.Ends.{Ends, at-active, at-root, goes-on}
 use Rattle.rules.proofs.Kept.Freed.{Freed, off, keeps, frees}

@@ -1,57 +1,34 @@
 -- Removal, timer and restart as calls of a list.
-use mathlib.Core.Path.{_≡_, refl, sym, ap, _∙_}
-use mathlib.Core.Logic.{_≢_, _⊎_, inl, inr}
-use mathlib.Core.Bool.{Bool, true, false, not, _&&_, _||_}
-use mathlib.Core.List.{List, [], _∷_}
+use mathlib.Core.Path.{_≡_, refl}
+use mathlib.Core.Logic.{_≢_}
+use mathlib.Core.Bool.{true, false, _&&_}
 use mathlib.Core.Option.{Option, none, some}
-use Prim.Native.Nat.{ℕ, suc, _≤_, _<_}
+use Prim.Native.Nat.{ℕ}
 use native.Mathlib.Omega.{arith}
-use lib.Dec.{eqb, leb}
-use lib.ListN.{getD, set, length, length-set}
+use lib.Dec.{leb}
+use lib.ListN.{length, length-set}
 use lib.Seq.{getD-set-other}
-use borrow.Author.Tests.{eqb-true, eqb-false, ne-eqb}
-use Rattle.rules.specs.Common.{if_then_else_, isAt, best}
 use Rattle.rules.specs.Hashes.{hashAt}
-use Rattle.rules.specs.Records.{NONE, Blocks, Heads, Tables, tipAt, tailAt, requestedAt, sequenceAt, used, occupied, stored, slotsOf}
+use Rattle.rules.specs.Records.{NONE, Blocks, Heads, tipAt, tailAt, requestedAt, sequenceAt, occupied, stored, slotsOf}
 use Rattle.rules.specs.BlockTable.{markSubtree}
-use Rattle.rules.specs.Caches.{recomputeHeads}
 use Rattle.rules.specs.Removal.{removed}
 use Rattle.rules.specs.Rebuild.{restarted}
 use Rattle.rules.specs.Timer.{Ask, spanOr, due, mayAsk, asksBefore, chosen, claimed, askAt, recovery, markRequested}
-use Rattle.rules.specs.Answers.{Answer, done, freed, request, noneDue}
-use Rattle.rules.specs.Calls.{
-  State,
-  Stepped,
-  Call,
-  promoteCall,
-  removeCall,
-  timerCall,
-  restartCall,
-  keeping,
-  answering,
-  shaped,
-  isNext,
-  promote,
-  holdsActive,
-  remove,
-  withRequested,
-  asked,
-  timer,
-  restart,
-}
-use Rattle.rules.specs.Promises.{sequence, parent, Occupied, Active, Not, OnLine, start, down, headAt, name, Accepted, Sound}
-use Rattle.rules.proofs.Splits.{split, same?, option?, and-true, true-not-false}
+use Rattle.rules.specs.Answers.{done, freed, request, noneDue}
+use Rattle.rules.specs.Calls.{State, promoteCall, removeCall, timerCall, restartCall, holdsActive, remove, withRequested, asked, timer, restart}
+use Rattle.rules.specs.Promises.{headAt, Sound}
+use Rattle.rules.proofs.Splits.{split, option?, and-true, true-not-false}
 use Rattle.rules.proofs.Kept.Choice.{best-passes}
-use Rattle.rules.proofs.Kept.Table.{seqOf, parentOf, holds, onChain, Shape, holds-ne, ne-holds, holds-real}
+use Rattle.rules.proofs.Kept.Table.{holds}
 use Rattle.rules.proofs.Kept.Steady.{steady-refl}
-use Rattle.rules.proofs.Kept.Seats.{room, tipOf, inUse, kept, keptBy}
-use Rattle.rules.proofs.Kept.Frame.{Frame, Good, All}
+use Rattle.rules.proofs.Kept.Seats.{inUse, keptBy}
+use Rattle.rules.proofs.Kept.Frame.{Good, All}
 use Rattle.rules.proofs.Kept.Refresh.{stored-use}
 use Rattle.rules.proofs.Kept.Remove.{remove-done}
 use Rattle.rules.proofs.Kept.Rebuild.{restart-done}
-use Rattle.rules.proofs.Kept.Walked.{blocksOf, headsOf, active-on, on-active, off-idle}
-use Rattle.rules.proofs.Kept.Border.{sound-good, good-sound, line-active}
-use Rattle.rules.proofs.Kept.Went.{Went, chain-holds, quiet, turned-away}
+use Rattle.rules.proofs.Kept.Walked.{blocksOf, headsOf}
+use Rattle.rules.proofs.Kept.Border.{sound-good}
+use Rattle.rules.proofs.Kept.Went.{Went, quiet, turned-away}
 
 -- ---- remove
 

@@ -1,22 +1,21 @@
 -- Removal's work on the blocks: the marked ones are freed, and the counts are set.
 use mathlib.Core.Path.{_≡_, refl, sym, ap, _∙_}
-use mathlib.Core.Logic.{_≢_, _⊎_, inl, inr}
-use mathlib.Core.Bool.{Bool, true, false, not, _&&_}
+use mathlib.Core.Logic.{_≢_}
+use mathlib.Core.Bool.{true, false}
 use mathlib.Core.List.{List, [], _∷_}
 use Prim.Native.Nat.{ℕ, zero, suc, _≤_, _<_, max, min}
 use native.Mathlib.Omega.{arith}
-use lib.Dec.{eqb}
-use lib.ListN.{length, getD, set, length-set}
+use lib.ListN.{length, length-set}
 use lib.Seq.{getD-set-same, getD-set-other}
 use borrow.Author.Tests.{eq-eqb, ne-eqb}
-use Rattle.rules.specs.Common.{if_then_else_, countBelow, inOrder}
-use Rattle.rules.specs.Records.{NONE, Blocks, occupied, countAt, slotsOf, blockAt}
+use Rattle.rules.specs.Common.{inOrder}
+use Rattle.rules.specs.Records.{Blocks, occupied, countAt, slotsOf, blockAt}
 use Rattle.rules.specs.BlockTable.{childOf, children, delete}
 use Rattle.rules.specs.Removal.{recount, recountAll, recounted, listed, freeAll}
-use Rattle.rules.specs.Promises.{isChild, childrenOf}
-use Rattle.rules.proofs.Splits.{split, same?, less?, true-not-false}
-use Rattle.rules.proofs.Kept.Table.{size, seqOf, parentOf, countOf, holds, onChain, Shape, Linked, Kept, holds-lt, kids-slots}
-use Rattle.rules.proofs.Kept.Slots.{But, but-holds, erase, erase-but, erase-empty, Voids, erase-voids}
+use Rattle.rules.specs.Promises.{childrenOf}
+use Rattle.rules.proofs.Splits.{split, same?, true-not-false}
+use Rattle.rules.proofs.Kept.Table.{size, seqOf, holds, Shape, Linked, Kept, holds-lt, kids-slots}
+use Rattle.rules.proofs.Kept.Slots.{But, erase, erase-but, erase-empty, Voids, erase-voids}
 
 -- ---- the listed blocks are freed
 

@@ -1,15 +1,15 @@
 -- The block table as the proofs read it: a table at a time, and what is kept of it.
-use mathlib.Core.Path.{_≡_, refl}
+use mathlib.Core.Path.{_≡_}
 use mathlib.Core.Logic.{_≢_, _⊎_, inl, inr}
-use mathlib.Core.Bool.{Bool, true, false, not, _&&_}
+use mathlib.Core.Bool.{Bool, true, false}
 use mathlib.Core.List.{List}
 use Prim.Native.Nat.{ℕ, suc, _*_, _≤_, _<_, max}
 use native.Mathlib.Omega.{arith}
 use lib.Dec.{eqb}
-use lib.ListN.{length, getD, set, List·getD-eq-default}
+use lib.ListN.{length, set, List·getD-eq-default}
 use borrow.Author.Tests.{eqb-true, eqb-false, eq-eqb, ne-eqb, not-true, not-false}
 use Rattle.rules.specs.Hashes.{hashAt, hashLength}
-use Rattle.rules.specs.Records.{NONE, Blocks, sequenceAt, parentAt, countAt, flagsAt, occupied, active, slotsOf}
+use Rattle.rules.specs.Records.{NONE, Blocks, sequenceAt, parentAt, countAt, occupied, active, slotsOf}
 use Rattle.rules.specs.BlockTable.{withCounts, withParents}
 use Rattle.rules.specs.Promises.{isChild, childrenOf}
 use Rattle.rules.proofs.Splits.{split, less?, true-not-false}

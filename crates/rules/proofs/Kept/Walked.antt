@@ -1,20 +1,18 @@
 -- The parent walk as a list of visits, beside the walk's end: each gives the other.
-use mathlib.Core.Path.{_≡_, refl, sym, ap, _∙_}
-use mathlib.Core.Logic.{_≢_, _⊎_, inl, inr}
-use mathlib.Core.Bool.{Bool, true, false}
+use mathlib.Core.Path.{_≡_, refl}
+use mathlib.Core.Bool.{true, false}
 use mathlib.Core.List.{List, [], _∷_}
 use Prim.Native.Nat.{ℕ, zero, suc, _%_, _≤_, _<_}
 use native.Mathlib.Omega.{arith}
 use lib.ListN.{length, getD}
-use borrow.Author.Tests.{eqb-true, eqb-false, eq-eqb, ne-eqb}
-use Rattle.rules.specs.Records.{NONE, Blocks, Heads, active, bit0}
+use borrow.Author.Tests.{eqb-true, eq-eqb, ne-eqb}
+use Rattle.rules.specs.Records.{NONE, Blocks, Heads, active}
 use Rattle.rules.specs.Anchor.{Anchor, connection, tail}
-use Rattle.rules.specs.Calls.{State, blocksIn}
-use Rattle.rules.specs.Promises.{sequence, parent, Occupied, Active, Not, tip, InUse, anchor, Connected, headAt, Walk, ends, goes, Among, first, further, MeetsActive, FirstActive, here, after, Last, only, behind, Anchored}
-use Rattle.rules.proofs.Splits.{split, same?, true-not-false}
-use Rattle.rules.proofs.Kept.Table.{size, seqOf, parentOf, holds, onChain, Shape, Linked, holds-ne, ne-holds, holds-real, none-empty, empty-eq, parent-there}
-use Rattle.rules.proofs.Kept.Ends.{Ends, at-active, at-root, goes-on, depth, depth-falls, depth-lt}
-use Rattle.rules.proofs.Kept.Seats.{room, tipOf, inUse, kept, keptBy, anchorOf}
+use Rattle.rules.specs.Calls.{State}
+use Rattle.rules.specs.Promises.{parent, Occupied, Active, Not, Walk, ends, goes, Among, first, further, FirstActive, here, after, Last, only, behind}
+use Rattle.rules.proofs.Splits.{same?, true-not-false}
+use Rattle.rules.proofs.Kept.Table.{parentOf, holds, onChain, Shape, Linked, holds-ne, ne-holds, holds-real, none-empty, empty-eq, parent-there}
+use Rattle.rules.proofs.Kept.Ends.{Ends, at-active, at-root, goes-on, depth, depth-falls}
 
 abbrev pub blocksOf : State → Blocks
 blocksOf s = s .tables .blocks

@@ -1,25 +1,21 @@
 -- What one call of a list does to the promises, and the calls that name no block anew.
 use mathlib.Core.Path.{_≡_, refl, sym, ap, _∙_}
 use mathlib.Core.Logic.{_≢_, _⊎_, inl, inr}
-use mathlib.Core.Bool.{Bool, true, false}
-use mathlib.Core.List.{List, [], _∷_}
-use mathlib.Core.Option.{Option, none, some}
-use Prim.Native.Nat.{ℕ, suc, _%_, _≤_, _<_}
-use native.Mathlib.Omega.{arith}
-use lib.ListN.{getD}
+use mathlib.Core.Bool.{true, false}
+use mathlib.Core.Option.{Option, some}
+use Prim.Native.Nat.{ℕ}
 use Rattle.rules.specs.Common.{if_then_else_, isAt}
-use Rattle.rules.specs.Hashes.{hashAt}
-use Rattle.rules.specs.Records.{NONE, Blocks, Heads, Tables, active, flagsAt, blockAt}
+use Rattle.rules.specs.Records.{NONE, Blocks, Tables, active, flagsAt, blockAt}
 use Rattle.rules.specs.Answers.{Answer, refused}
 use Rattle.rules.specs.Calls.{State, Stepped, Call, promoteCall, keeping, answering, refuse}
-use Rattle.rules.specs.Promises.{sequence, parent, Occupied, Active, Not, OnLine, start, down, Name, name, Accepted, slotReturned, nameGiven, Sound}
+use Rattle.rules.specs.Promises.{sequence, parent, Occupied, Active, OnLine, start, down, Name, name, Accepted, slotReturned, nameGiven, Sound}
 use Rattle.rules.specs.declared.Block.{Block}
-use Rattle.rules.proofs.Splits.{split, same?, true-not-false}
-use Rattle.rules.proofs.Kept.Table.{seqOf, parentOf, hashOf, holds, onChain, Shape, holds-ne, ne-holds, holds-real}
+use Rattle.rules.proofs.Splits.{split, true-not-false}
+use Rattle.rules.proofs.Kept.Table.{hashOf, holds, onChain, holds-ne, ne-holds, holds-real}
 use Rattle.rules.proofs.Kept.Slots.{Voids}
 use Rattle.rules.proofs.Kept.Steady.{Steady, steady-refl}
 use Rattle.rules.proofs.Kept.Frame.{Good, All}
-use Rattle.rules.proofs.Kept.Walked.{blocksOf, headsOf, active-on, on-active}
+use Rattle.rules.proofs.Kept.Walked.{blocksOf, active-on, on-active}
 use Rattle.rules.proofs.Kept.Border.{sound-good, good-sound, line-active}
 
 pub record Went (call : Call) (s : State) (w : Stepped) : Type 0 where

@@ -13,9 +13,10 @@ use Rattle.rules.proofs.Kept.Table.{ne-holds}
 use Rattle.rules.proofs.Kept.Frame.{Good, All}
 use Rattle.rules.proofs.Kept.Empty.{no-block, none-held, empty-shape, no-head, none-used, empty-room}
 use Rattle.rules.proofs.Kept.Walked.{active-on}
-use Rattle.rules.proofs.Kept.Border.{shaped-shape, good-sound}
+use Rattle.rules.proofs.Kept.Border.{good-sound}
 use Rattle.rules.proofs.Kept.Went.{chain-holds}
 use Rattle.rules.proofs.Kept.Lists.{none-promoted, list-promise}
+use Rattle.rules.proofs.Kept.Shaped.{shaped-shape}
 
 module _ (n m : ℕ) (some : 1 ≤ n) (small : n ≤ 1024) (two : 2 ≤ m) (few : m ≤ 64) where
   fresh-good : Good (emptyBlocks n) (emptyHeads m) NONE All

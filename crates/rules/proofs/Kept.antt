@@ -8,6 +8,7 @@ pub mod Ends
 pub mod Freed
 pub mod Steady
 pub mod Seats
+pub mod Cached
 pub mod Frame
 pub mod Leaves
 pub mod EvictHead
@@ -28,6 +29,8 @@ pub mod Remove
 pub mod Empty
 pub mod Rebuild
 pub mod Walked
+pub mod Shaped
+pub mod Anchors
 pub mod Border
 pub mod Went
 pub mod Steps

@@ -17,7 +17,7 @@ use Rattle.rules.proofs.Splits.{option?, true-not-false}
 use Rattle.rules.proofs.Kept.Table.{seqOf, countOf, hashOf, holds, onChain, setCount, Kept, holds-real}
 use Rattle.rules.proofs.Kept.Slots.{but-holds, count-but, count-kids}
 use Rattle.rules.proofs.Kept.Steady.{Steady, steady-refl, steady-trans, steady-any, but-steady}
-use Rattle.rules.proofs.Kept.Seats.{tipOf, inUse, use-lt, Seat, tip-seat, arrival-seat}
+use Rattle.rules.proofs.Kept.Seats.{tipOf, inUse, use-lt, Seat}
 use Rattle.rules.proofs.Kept.Frame.{Good, All, head-some}
 use Rattle.rules.proofs.Kept.Leaves.{children-bound}
 use Rattle.rules.proofs.Kept.Place.{Done, insert-done, again-seat, again-kept}
@@ -25,6 +25,7 @@ use Rattle.rules.proofs.Kept.Insert.{insert, Fits, insert-but, insert-s
 use Rattle.rules.proofs.Kept.Arrive.{raise, raised, root-good, extend-good, fork-good}
 use Rattle.rules.proofs.Kept.LinkLoop.{all-keep}
 use Rattle.rules.proofs.Kept.Refresh.{refreshed}
+use Rattle.rules.proofs.Kept.Cached.{tip-seat, arrival-seat}
 
 -- the new block of u has its head
 pub record Placed (u : Blocks) (top x : ℕ) (w : Tables) : Type 0 where

@@ -1,155 +1,19 @@
 -- The promises of a state, and what the proofs keep of its tables: each gives the other.
-use mathlib.Core.Path.{_≡_, refl, sym, _∙_}
+use mathlib.Core.Path.{_≡_, refl}
 use mathlib.Core.Logic.{_≢_, _⊎_, inl, inr}
-use mathlib.Core.Bool.{Bool, true, false, _&&_}
-use mathlib.Core.List.{List}
-use mathlib.Core.Option.{some}
-use Prim.Native.Nat.{ℕ, suc, _*_, _%_, _≤_}
-use native.Mathlib.Omega.{arith}
-use lib.Dec.{eqb, leb}
-use lib.ListN.{length, getD}
-use borrow.Author.Tests.{eqb-true, eqb-false, eq-eqb, leb-true, le-leb}
-use Rattle.rules.specs.Hashes.{hashLength}
-use Rattle.rules.specs.Records.{NONE, Tables, bit0}
-use Rattle.rules.specs.Anchor.{connection, tail}
-use Rattle.rules.specs.Calls.{State, blocksFit, headsFit, shaped, blocksIn, headsIn}
-use Rattle.rules.specs.Promises.{Occupied, Active, Not, tip, anchor, headAt, first, further, MeetsActive, FirstActive, here, after, Anchored, OnLine, start, down, name, Sound}
-use Rattle.rules.proofs.Splits.{split, and-true}
-use Rattle.rules.proofs.Kept.Table.{parentOf, holds, onChain, Shape, Linked, holds-ne, ne-holds, empty-eq}
-use Rattle.rules.proofs.Kept.Ends.{Ends, depth, depth-lt}
-use Rattle.rules.proofs.Kept.Seats.{tipOf, inUse, kept, keptBy, anchorOf, Room, use-ne, ne-use, free-eq}
+use mathlib.Core.Bool.{true}
+use Prim.Native.Nat.{ℕ}
+use Rattle.rules.specs.Records.{NONE}
+use Rattle.rules.specs.Calls.{State}
+use Rattle.rules.specs.Promises.{Occupied, Active, OnLine, start, down, name, Sound}
+use Rattle.rules.proofs.Splits.{split}
+use Rattle.rules.proofs.Kept.Table.{parentOf, holds, onChain, Linked, holds-ne, ne-holds, empty-eq}
+use Rattle.rules.proofs.Kept.Seats.{tipOf, inUse, use-ne, ne-use, free-eq}
 use Rattle.rules.proofs.Kept.Frame.{Good, All}
 use Rattle.rules.proofs.Kept.EvictHead.{victim-there}
-use Rattle.rules.proofs.Kept.Walked.{blocksOf, headsOf, active-on, on-active, idle-off, off-idle, walk-there, Met, walk-met, walk-first, walk-last}
-
--- ---- shape
-
-module _ (t : Tables) where
-  abbrev n : ℕ
-  n = blocksIn t
-
-  abbrev m : ℕ
-  m = headsIn t
-
-  pub shaped-is : Shape (t .blocks) → Room (t .heads) → shaped t ≡ true
-  unfolding shaped blocksFit headsFit
-  shaped-is s r =
-      let b = t .blocks in
-      let h = t .heads in
-      let e = s .parents in
-      rw (
-        le-leb 1 n (omega (arith, s .some)),
-        le-leb n 1024 (omega (arith, s .small)),
-        le-leb 2 m (r .two),
-        le-leb m 64 (r .few),
-        eq-eqb (length (b .hashes)) (n * hashLength) (omega (arith, s .hashed)),
-        eq-eqb (length (b .sequences)) n (sym e),
-        eq-eqb (length (b .counts)) n (omega (arith, s .counts)),
-        eq-eqb (length (b .flags)) n (omega (arith, s .flagged)),
-        eq-eqb (length (h .tails)) m (r .tailed),
-        eq-eqb (length (h .missing)) (m * hashLength) (r .missed),
-        eq-eqb (length (h .requested)) m (r .asked),
-        eq-eqb (length (h .arrivals)) m (r .arrived),
-        eq-eqb (length (h .connected)) m (r .flagged),
-      ) refl
-
-  pub shaped-shape : shaped t ≡ true → Shape (t .blocks) × Room (t .heads)
-  unfolding shaped blocksFit headsFit
-  shaped-shape e =
-      let b = t .blocks in
-      let h = t .heads in
-      let few = leb 1 n && leb n 1024 in
-      let fits = eqb (length (b .hashes)) (n * hashLength) && eqb (length (b .sequences)) n in
-      let heads = eqb (length (h .tails)) m && eqb (length (h .missing)) (m * hashLength) in
-      let a1 = and-true (few && leb 2 m && leb m 64 && blocksFit b n) (headsFit h m) e in
-      let a2 = and-true (few && leb 2 m && leb m 64) (blocksFit b n) (a1 .0) in
-      let a3 = and-true (few && leb 2 m) (leb m 64) (a2 .0) in
-      let a4 = and-true few (leb 2 m) (a3 .0) in
-      let a5 = and-true (leb 1 n) (leb n 1024) (a4 .0) in
-      let b1 = and-true (fits && eqb (length (b .counts)) n) (eqb (length (b .flags)) n) (a2 .1) in
-      let b2 = and-true fits (eqb (length (b .counts)) n) (b1 .0) in
-      let b3 = and-true (eqb (length (b .hashes)) (n * hashLength)) (eqb (length (b .sequences)) n) (b2 .0) in
-      let c1 = and-true (heads && eqb (length (h .requested)) m && eqb (length (h .arrivals)) m) (eqb (length (h .connected)) m) (a1 .1) in
-      let c2 = and-true (heads && eqb (length (h .requested)) m) (eqb (length (h .arrivals)) m) (c1 .0) in
-      let c3 = and-true heads (eqb (length (h .requested)) m) (c2 .0) in
-      let c4 = and-true (eqb (length (h .tails)) m) (eqb (length (h .missing)) (m * hashLength)) (c3 .0) in
-      let q = eqb-true (length (b .sequences)) n (b3 .1) in
-      let one = leb-true 1 n (a5 .0) in
-      let many = leb-true n 1024 (a5 .1) in
-      let w = eqb-true (length (b .hashes)) (n * hashLength) (b3 .0) in (
-        record {
-          some = omega arith;
-          small = omega arith;
-          parents = sym q;
-          counts = eqb-true (length (b .counts)) n (b2 .1) ∙ sym q;
-          flagged = eqb-true (length (b .flags)) n (b1 .1) ∙ sym q;
-          hashed = omega arith;
-        },
-        record {
-          two = leb-true 2 m (a4 .1);
-          few = leb-true m 64 (a3 .1);
-          tailed = eqb-true (length (h .tails)) m (c4 .0);
-          missed = eqb-true (length (h .missing)) (m * hashLength) (c4 .1);
-          asked = eqb-true (length (h .requested)) m (c3 .1);
-          arrived = eqb-true (length (h .arrivals)) m (c2 .1);
-          flagged = eqb-true (length (h .connected)) m (c1 .1);
-        },
-      )
-
--- ---- anchors
-
-first-meets : (s : State) (a : ℕ) (visits : List ℕ) → FirstActive s a visits → MeetsActive s visits
-first-meets s a visits (here v x) = (a, first v, x)
-first-meets s a visits (after i v n m) = let r = first-meets s a v m in (r .0, further i v (r .1), r .2)
-
-module _ (s : State) (k : ℕ) (sh : Shape (blocksOf s)) (l : Linked (blocksOf s)) where
-  abbrev flag : Bool
-  flag = bit0 (getD (s .tables .heads .connected) k 0)
-
-  kept-on : flag ≡ true → kept (headsOf s) k ≡ connection (anchor s k)
-  unfolding keptBy headAt anchorOf
-  kept-on e = rw e
-
-  kept-off : flag ≡ false → kept (headsOf s) k ≡ tail (anchor s k)
-  unfolding keptBy headAt anchorOf
-  kept-off e = rw e
-
-  pub ends-anchored : holds (blocksOf s) (tip s k) ≡ true → Ends (blocksOf s) (tip s k) (kept (headsOf s) k) → Anchored s k
-  unfolding Met
-  ends-anchored o e =
-      let t = blocksOf s in
-      let (visits, w, n) = walk-there s sh l (suc (depth t (tip s k))) (tip s k) o (omega arith) in
-      let few : length visits ≤ blocksIn (s .tables) = omega (arith, depth-lt t (tip s k) o, sh .parents) in
-      split flag
-      (λ b.
-      let m : FirstActive s (anchor s k) visits = walk-met s sh l (tip s k) visits (connection (anchor s k)) w (rw (kept-on b) at e) in
-      record {
-        visits = visits;
-        walk = w;
-        few = few;
-        connected = (λ _. first-meets s (anchor s k) visits m, λ _. eqb-true (getD (s .tables .heads .connected) k 0 % 2) 1 b);
-        atFirst = λ _. m;
-        orLast = λ no. absurd (no (first-meets s (anchor s k) visits m));
-      })
-      (λ b.
-      let m : Met s sh l visits (tail (anchor s k)) = walk-met s sh l (tip s k) visits (tail (anchor s k)) w (rw (kept-off b) at e) in
-      record {
-        visits = visits;
-        walk = w;
-        few = few;
-        connected = (λ c. absurd (eqb-false (getD (s .tables .heads .connected) k 0 % 2) 1 b c), λ c. absurd (m .1 (c .0) (c .1) (c .2)));
-        atFirst = λ c. absurd (m .1 (c .0) (c .1) (c .2));
-        orLast = λ _. m .0;
-      })
-
-  pub anchored-ends : Anchored s k → Ends (blocksOf s) (tip s k) (kept (headsOf s) k)
-  anchored-ends a = split flag
-      (λ b. rw (kept-on b) (walk-first s sh l (anchor s k) (tip s k) (a .visits) (a .walk) (a .atFirst (a .connected .0 (eqb-true (getD (s .tables .heads .connected) k 0 % 2) 1 b)))))
-      (λ b.
-      let no : Not (MeetsActive s (a .visits)) = λ c. eqb-false (getD (s .tables .heads .connected) k 0 % 2) 1 b (a .connected .1 c) in
-      rw (kept-off b) (walk-last s sh l (anchor s k) (tip s k) (a .visits) (a .walk) (λ j m x. no (j, m, x)) (a .orLast no)))
-
--- ---- the whole
+use Rattle.rules.proofs.Kept.Walked.{blocksOf, headsOf, active-on, on-active, idle-off, off-idle}
+use Rattle.rules.proofs.Kept.Shaped.{shaped-is, shaped-shape}
+use Rattle.rules.proofs.Kept.Anchors.{ends-anchored, anchored-ends}
 
 pub line-active : (s : State) (i : ℕ) → OnLine s i → Active s i
 line-active s i (start a) = a

@@ -1,5 +1,5 @@
 -- Removal's work on the heads: of those whose tip was freed one may move to the root's parent, and the rest are emptied.
-use mathlib.Core.Path.{_≡_, refl, sym, ap, _∙_}
+use mathlib.Core.Path.{_≡_, refl, sym, _∙_}
 use mathlib.Core.Bool.{true, false}
 use mathlib.Core.List.{List}
 use mathlib.Core.Option.{Option}
@@ -7,14 +7,14 @@ use Prim.Native.Nat.{ℕ, zero, suc, _≤_, _<_}
 use native.Mathlib.Omega.{arith}
 use lib.ListN.{set}
 use Rattle.rules.specs.Common.{isAt, inOrder}
-use Rattle.rules.specs.Records.{NONE, Heads, used, emptyHead}
+use Rattle.rules.specs.Records.{NONE, Heads, emptyHead}
 use Rattle.rules.specs.Admission.{withTips}
 use Rattle.rules.specs.Removal.{headFreed, dropHead}
 use Rattle.rules.specs.Promises.{headAt}
-use Rattle.rules.specs.declared.Head.{Head}
 use Rattle.rules.proofs.Splits.{split, same?}
 use Rattle.rules.proofs.Kept.Bytes.{zero-length}
-use Rattle.rules.proofs.Kept.Seats.{room, tipOf, Room, Seat, tip-seat, clear, clear-seat, put-head}
+use Rattle.rules.proofs.Kept.Seats.{same-head, room, tipOf, Room, Seat, clear, clear-seat, put-head}
+use Rattle.rules.proofs.Kept.Cached.{tip-seat}
 
 module _ (l : List ℕ) (moving : Option ℕ) (p : ℕ) where
   -- what becomes of head s of h
@@ -29,17 +29,13 @@ module _ (l : List ℕ) (moving : Option ℕ) (p : ℕ) where
     pub cells : Room h → (s : ℕ) → s < k → s < room h → Cell h u s
     pub later : (s : ℕ) → k ≤ s → headAt u s ≡ headAt h s
 
-  tip-same : (h u : Heads) (s : ℕ) → headAt u s ≡ headAt h s → tipOf u s ≡ tipOf h s
-  unfolding headAt
-  tip-same h u s e = ap (λ (x : Head). x .tip .0) e
-
   freed-same : (h u : Heads) (s : ℕ) → headAt u s ≡ headAt h s → headFreed l (u .tips) s ≡ headFreed l (h .tips) s
-  unfolding headFreed used
-  freed-same h u s e = rw (tip-same h u s e)
+  unfolding headFreed
+  freed-same h u s e = let q = same-head h u s e in rw (q .busy, q .tip)
 
   -- another head's cell is as it was
   cell-on : (h u v : Heads) (s : ℕ) → headAt v s ≡ headAt u s → Cell h u s → Cell h v s
-  cell-on h u v s e (moved a b) = moved a (tip-same u v s e ∙ b)
+  cell-on h u v s e (moved a b) = moved a (same-head u v s e .tip ∙ b)
   cell-on h u v s e (emptied a b c) = emptied a b (e ∙ c)
   cell-on h u v s e (left a b c) = left a b (e ∙ c)
 

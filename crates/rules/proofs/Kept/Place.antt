@@ -18,9 +18,10 @@ use Rattle.rules.proofs.Kept.Table.{size, holds, onChain, Shape}
 use Rattle.rules.proofs.Kept.Ends.{located, anchor-ends}
 use Rattle.rules.proofs.Kept.Freed.{Freed}
 use Rattle.rules.proofs.Kept.Steady.{Steady, steady-refl, steady-trans, freed-leaf, freed-back, freed-steady, freed-size}
-use Rattle.rules.proofs.Kept.Seats.{room, tipOf, inUse, kept, Room, use-lt, head-slots, Seat, seat-tip, seat-use, put-seat, clear, clear-seat, clear-here, clear-other, recompute-seat, recompute-kept}
+use Rattle.rules.proofs.Kept.Seats.{room, tipOf, inUse, kept, Room, use-lt, head-slots, Seat, seat-tip, seat-use, put-seat, clear, clear-seat, clear-here, clear-other}
 use Rattle.rules.proofs.Kept.Frame.{Good, seat-good}
 use Rattle.rules.proofs.Kept.EvictHead.{trace, evict-good, victim-some, victim-there, evict-one}
+use Rattle.rules.proofs.Kept.Cached.{recompute-seat, recompute-kept}
 
 -- ---- the caches of a head that has got a tip
 

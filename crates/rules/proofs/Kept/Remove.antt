@@ -4,25 +4,25 @@ use mathlib.Core.Logic.{_≢_, _⊎_, inl, inr}
 use mathlib.Core.Bool.{Bool, true, false, not, _&&_}
 use mathlib.Core.List.{List}
 use mathlib.Core.Option.{Option, none}
-use Prim.Native.Nat.{ℕ, suc, _%_, _≤_, _<_}
+use Prim.Native.Nat.{ℕ, suc, _≤_, _<_}
 use native.Mathlib.Omega.{arith}
 use lib.Dec.{eqb}
 use borrow.Author.Tests.{eqb-true, eq-eqb, not-true}
 use Rattle.rules.specs.Common.{isSome, isAt, lowest}
-use Rattle.rules.specs.Records.{NONE, Blocks, Heads, Tables, occupied, active, slotsOf, blockAt, used, emptyHead}
+use Rattle.rules.specs.Records.{NONE, Blocks, Heads, Tables, occupied, slotsOf, used, emptyHead}
 use Rattle.rules.specs.BlockTable.{childless, children, markSubtree}
 use Rattle.rules.specs.Caches.{slotOfHead}
 use Rattle.rules.specs.Removal.{recounted, listed, headFreed, takesOver, heir, dropHeads, blocksDeleted, freeAll, removed}
 use Rattle.rules.specs.Calls.{holdsActive}
 use Rattle.rules.specs.Promises.{isChild, childrenOf, headAt}
-use Rattle.rules.specs.declared.Block.{Block}
 use Rattle.rules.specs.declared.Head.{Head}
 use Rattle.rules.proofs.Splits.{split, same?, less?, option?, and-true, and-both, true-not-false}
 use Rattle.rules.proofs.Search.{lowest-holds, lowest-found}
 use Rattle.rules.proofs.Kept.Counting.{zero?, count-mono}
 use Rattle.rules.proofs.Kept.Table as table
-use Rattle.rules.proofs.Kept.Table.{size, seqOf, parentOf, hashOf, holds, onChain, Shape, Linked, holds-real, parent-there}
+use Rattle.rules.proofs.Kept.Table.{size, parentOf, holds, onChain, Shape, Linked, holds-real, parent-there}
 use Rattle.rules.proofs.Kept.Ends.{leaf, height, some-child}
+use Rattle.rules.proofs.Kept.Slots.{Same, same-block}
 use Rattle.rules.proofs.Kept.Steady.{Steady}
 use Rattle.rules.proofs.Kept.Seats.{room, tipOf, inUse, use-lt, use-ne, ne-use, head-slots, Blanks}
 use Rattle.rules.proofs.Kept.Frame.{Frame, Good, All, Chained, head-some, head-none}
@@ -31,24 +31,6 @@ use Rattle.rules.proofs.Kept.Recomputed.{recomputed}
 use Rattle.rules.proofs.Kept.Mark.{mark, mark-root, mark-parent, mark-above, mark-listed, mark-off}
 use Rattle.rules.proofs.Kept.Sweep.{Swept, swept, kids-are, recounted-kids, recounted-voids, recounted-kept}
 use Rattle.rules.proofs.Kept.Drop.{Cell, moved, emptied, left, Dropped, dropped}
-
--- the same block in a slot of both tables
-pub record Same (t u : Blocks) (j : ℕ) : Type 0 where
-  pub hold : holds u j ≡ holds t j
-  pub seq : seqOf u j ≡ seqOf t j
-  pub parent : parentOf u j ≡ parentOf t j
-  pub hash : hashOf u j ≡ hashOf t j
-  pub chain : onChain u j ≡ onChain t j
-
-same-block : (t u : Blocks) (j : ℕ) → blockAt u j ≡ blockAt t j → Same t u j
-unfolding blockAt occupied active
-same-block t u j e = record {
-  hold = ap (λ (x : Block). not (eqb (x .sequence .0) NONE)) e;
-  seq = ap (λ (x : Block). x .sequence .0) e;
-  parent = ap (λ (x : Block). x .parent .0) e;
-  hash = ap (λ (x : Block). x .hash) e;
-  chain = ap (λ (x : Block). eqb (x .flags % 2) 1) e;
-}
 
 module _ (t : Blocks) (h : Heads) (top r : ℕ) (g : Good t h top All) (root : holds t r ≡ true) (free : holdsActive t r ≡ false) where
   f : Frame t h top All

@@ -12,8 +12,9 @@ use Rattle.rules.specs.Promises.{headAt}
 use Rattle.rules.specs.declared.Head.{Head}
 use Rattle.rules.proofs.Splits.{same?}
 use Rattle.rules.proofs.Kept.Ends.{Ends, located, anchor-ends}
-use Rattle.rules.proofs.Kept.Seats.{room, tipOf, inUse, kept, use-lt, Seat, seat-tip, seat-use, seat-kept, seat-taken, use-ne, recompute-seat, recompute-kept}
+use Rattle.rules.proofs.Kept.Seats.{room, tipOf, inUse, kept, use-lt, Seat, seat-tip, seat-use, seat-kept, seat-taken, use-ne}
 use Rattle.rules.proofs.Kept.Frame.{Frame, Good, Apt, seat-frame}
+use Rattle.rules.proofs.Kept.Cached.{recompute-seat, recompute-kept}
 
 -- head k, in use, has its caches worked out
 pub record Redone (t : Blocks) (k : ℕ) (h u : Heads) : Type 0 where

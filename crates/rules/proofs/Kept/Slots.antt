@@ -2,14 +2,14 @@
 use mathlib.Core.Path.{_≡_, refl, sym, ap, _∙_}
 use mathlib.Core.Logic.{_≢_}
 use mathlib.Core.Bool.{true, false, not}
-use Prim.Native.Nat.{ℕ, suc, _<_}
+use Prim.Native.Nat.{ℕ, suc, _%_, _<_}
 use native.Mathlib.Omega.{arith}
 use lib.Dec.{eqb}
 use lib.ListN.{length, length-set}
 use lib.Seq.{getD-set-same, getD-set-other}
 use borrow.Author.Tests.{eq-eqb, ne-eqb}
 use Rattle.rules.specs.Hashes.{hashLength}
-use Rattle.rules.specs.Records.{NONE, Blocks, occupied, active, flagsAt, emptyBlock, blockAt, putBlock}
+use Rattle.rules.specs.Records.{NONE, Blocks, occupied, active, emptyBlock, blockAt, putBlock}
 use Rattle.rules.specs.Promises.{isChild, childrenOf}
 use Rattle.rules.specs.declared.Block.{Block}
 use Rattle.rules.proofs.Splits.{same?, true-not-false, and-false-r}
@@ -17,6 +17,26 @@ use Rattle.rules.proofs.Cells.{getD-set-default}
 use Rattle.rules.proofs.Kept.Counting.{count-ext, count-drop}
 use Rattle.rules.proofs.Kept.Bytes.{put-hash-other, put-hash-here, put-hash-length, zero-length}
 use Rattle.rules.proofs.Kept.Table.{size, seqOf, parentOf, countOf, hashOf, holds, onChain, setCount, setParent, Shape, holds-lt}
+
+-- the same block in a slot of both tables
+pub record Same (t u : Blocks) (j : ℕ) : Type 0 where
+  pub hold : holds u j ≡ holds t j
+  pub seq : seqOf u j ≡ seqOf t j
+  pub parent : parentOf u j ≡ parentOf t j
+  pub count : countOf u j ≡ countOf t j
+  pub hash : hashOf u j ≡ hashOf t j
+  pub chain : onChain u j ≡ onChain t j
+
+pub same-block : (t u : Blocks) (j : ℕ) → blockAt u j ≡ blockAt t j → Same t u j
+unfolding blockAt occupied active
+same-block t u j e = record {
+    hold = ap (λ (x : Block). not (eqb (x .sequence .0) NONE)) e;
+    seq = ap (λ (x : Block). x .sequence .0) e;
+    parent = ap (λ (x : Block). x .parent .0) e;
+    count = ap (λ (x : Block). x .count) e;
+    hash = ap (λ (x : Block). x .hash) e;
+    chain = ap (λ (x : Block). eqb (x .flags % 2) 1) e
+  }
 
 -- u is t but for slot i
 pub record But (t u : Blocks) (i : ℕ) : Type 0 where
@@ -26,33 +46,26 @@ pub record But (t u : Blocks) (i : ℕ) : Type 0 where
 
 module _ (t u : Blocks) (i : ℕ) (b : But t u i) where
   module _ (j : ℕ) (ne : j ≢ i) where
+    same : Same t u j
+    same = same-block t u j (b .rest j ne)
+
     pub but-seq : seqOf u j ≡ seqOf t j
-    unfolding blockAt
-    but-seq = ap (λ (x : Block). x .sequence .0) (b .rest j ne)
+    but-seq = same .seq
 
     pub but-parent : parentOf u j ≡ parentOf t j
-    unfolding blockAt
-    but-parent = ap (λ (x : Block). x .parent .0) (b .rest j ne)
+    but-parent = same .parent
 
     pub but-count : countOf u j ≡ countOf t j
-    unfolding blockAt
-    but-count = ap (λ (x : Block). x .count) (b .rest j ne)
+    but-count = same .count
 
     pub but-hash : hashOf u j ≡ hashOf t j
-    unfolding blockAt
-    but-hash = ap (λ (x : Block). x .hash) (b .rest j ne)
-
-    but-flags : flagsAt (u .flags) j ≡ flagsAt (t .flags) j
-    unfolding blockAt
-    but-flags = ap (λ (x : Block). x .flags) (b .rest j ne)
+    but-hash = same .hash
 
     pub but-chain : onChain u j ≡ onChain t j
-    unfolding active
-    but-chain = rw but-flags
+    but-chain = same .chain
 
     pub but-holds : holds u j ≡ holds t j
-    unfolding occupied
-    but-holds = rw but-seq
+    but-holds = same .hold
 
   -- the children of k, where slot i is one before and after or neither
   pub but-kids : (k : ℕ) → isChild u k i ≡ isChild t k i → childrenOf u k ≡ childrenOf t k

@@ -1,5 +1,5 @@
 -- Removal's work on the blocks: the marked ones are freed, and the counts are set.
-use mathlib.Core.Path.{_≡_, refl, sym, ap, _∙_}
+use mathlib.Core.Path.{_≡_, refl, sym, _∙_}
 use mathlib.Core.Logic.{_≢_}
 use mathlib.Core.Bool.{true, false}
 use mathlib.Core.List.{List, [], _∷_}
@@ -14,8 +14,8 @@ use Rattle.rules.specs.BlockTable.{childOf, children, delete}
 use Rattle.rules.specs.Removal.{recount, recountAll, recounted, listed, freeAll}
 use Rattle.rules.specs.Promises.{childrenOf}
 use Rattle.rules.proofs.Splits.{split, same?, true-not-false}
-use Rattle.rules.proofs.Kept.Table.{size, seqOf, holds, Shape, Linked, Kept, holds-lt, kids-slots}
-use Rattle.rules.proofs.Kept.Slots.{But, erase, erase-but, erase-empty, Voids, erase-voids}
+use Rattle.rules.proofs.Kept.Table.{size, holds, Shape, Linked, Kept, holds-lt, kids-slots}
+use Rattle.rules.proofs.Kept.Slots.{same-block, But, erase, erase-but, erase-empty, Voids, erase-voids}
 
 -- ---- the listed blocks are freed
 
@@ -50,10 +50,6 @@ module _ (t : Blocks) (i : ℕ) where
       (λ o. rw (delete-yes o) (erase-voids t i s o v))
       (λ o. rw (delete-no o) v)
 
-holds-same : (t u : Blocks) (j : ℕ) → blockAt u j ≡ blockAt t j → holds u j ≡ holds t j
-unfolding blockAt occupied
-holds-same t u j e = let q : seqOf u j ≡ seqOf t j = ap (λ (x : _). x .sequence .0) e in rw q
-
 listed-here : (i : ℕ) (l : List ℕ) (j : ℕ) → i ≡ j → listed (i ∷ l) j ≡ true
 unfolding listed
 listed-here i l j e = rw (eq-eqb i j e)
@@ -71,7 +67,7 @@ sweep-next i l t u w = let b = delete-but t i in
       gone = λ j m. split (listed l j)
           (λ n. w .gone j n)
           (λ n. same? i j
-          (λ q. holds-same (delete t i) u j (w .stay j n) ∙ rw (← q) (delete-empty t i))
+          (λ q. same-block (delete t i) u j (w .stay j n) .hold ∙ rw (← q) (delete-empty t i))
           (λ ne. true-not-false {b = listed l j} (sym (listed-there i l j ne) ∙ m) n));
       stay = λ j m.
           let ne : i ≢ j = λ q. true-not-false {b = listed (i ∷ l) j} (listed-here i l j q) m in

@@ -25,6 +25,8 @@ pub mod Promote
 pub mod Mark
 pub mod Sweep
 pub mod Drop
+pub mod Left
+pub mod HeadsLeft
 pub mod Remove
 pub mod Empty
 pub mod Rebuild

@@ -39,3 +39,4 @@ pub mod Steps
 pub mod PromoteStep
 pub mod AdmitStep
 pub mod Lists
+pub mod Mended

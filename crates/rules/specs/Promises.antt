@@ -198,3 +198,21 @@ pub record Promise (log : List Made) (s : State) (calls : List Call) : Type 0 wh
   -- a promoted block is never freed and keeps slot, sequence and hash
   pub stays : (more : List Call) (i : ℕ) → Promoted i (log ++ made s calls)
       → Occupied (run s (calls ++ more)) i × Active (run s (calls ++ more)) i × (name (run s (calls ++ more)) i ≡ name (run s calls) i)
+
+-- ---- restart, from blocks alone
+
+-- what restart asks of a state: of its counts and heads nothing but their lengths
+pub record Restartable (s : State) : Type 0 where
+  pub shape : shaped (s .tables) ≡ true
+  pub parents : (i : ℕ) → Occupied s i → (parent s i ≡ NONE) ⊎ (Occupied s (parent s i) × (suc (sequence s (parent s i)) ≡ sequence s i))
+  pub line : (i : ℕ) → Active s i → Occupied s i × OnLine s i
+  pub top : (s .activeHead ≡ NONE) ⊎ Active s (s .activeHead)
+  pub names : (i j : ℕ) → Occupied s i → Occupied s j → name s i ≡ name s j → i ≡ j
+  pub emptySlots : (i : ℕ) → Not (Occupied s i) → blockAt (s .tables .blocks) i ≡ emptyBlock
+  -- a count holds no more
+  pub few : (i : ℕ) → Occupied s i → children s i ≤ 255
+
+-- what it leaves
+pub record Mended (s : State) (now : ℕ) : Type 0 where
+  pub sound : Sound (step s (restartCall now) .after)
+  pub stays : (i : ℕ) → Active s i → Active (step s (restartCall now) .after) i × (name (step s (restartCall now) .after) i ≡ name s i)

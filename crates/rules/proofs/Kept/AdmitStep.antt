@@ -132,10 +132,10 @@ module _ (s : State) (q : ℕ) (hash previous : List ℕ) (arrival x : ℕ) (z :
       let y = d .steady in
       let v = d .good .frame .voids in
       record {
-        sound = good-sound u (d .good) (line-on s z w x free y v) (top-on s z w x free y) names;
-        stays = active-stays s z w x free y;
+        sound = good-sound u (d .good) (line-on s (z .line) sh w x free y v) (top-on s (z .line) sh w x free y (z .top)) names;
+        stays = active-stays s (z .line) sh w x free y;
         new = λ i e _. let c : _≡_ {A = ℕ} 0 1 = cc in absurd (omega arith);
-        only = λ i a. inl (active-was s z w x free y v i a);
+        only = λ i a. inl (active-was s (z .line) sh w x free y v i a);
         given = λ i was o h. same? x i
             (λ e. rw (eq-eqb x i e) (ap some (sym own) ∙ (rw e refl)))
             (λ ne. let p = other i (λ e. ne (sym e)) o in rw (ne-eqb x i ne) (h (p .0) ∙ ap some (sym (p .1))));

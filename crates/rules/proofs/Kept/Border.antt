@@ -9,7 +9,7 @@ use Rattle.rules.specs.Promises.{Occupied, Active, OnLine, start, down, 
 use Rattle.rules.proofs.Splits.{split}
 use Rattle.rules.proofs.Kept.Table.{parentOf, holds, onChain, Linked, holds-ne, ne-holds, empty-eq}
 use Rattle.rules.proofs.Kept.Seats.{tipOf, inUse, use-ne, ne-use, free-eq}
-use Rattle.rules.proofs.Kept.Frame.{Good, All}
+use Rattle.rules.proofs.Kept.Frame.{Chained, Good, All}
 use Rattle.rules.proofs.Kept.EvictHead.{victim-there}
 use Rattle.rules.proofs.Kept.Walked.{blocksOf, headsOf, active-on, on-active, idle-off, off-idle}
 use Rattle.rules.proofs.Kept.Shaped.{shaped-is, shaped-shape}
@@ -18,6 +18,14 @@ use Rattle.rules.proofs.Kept.Anchors.{ends-anchored, anchored-ends}
 pub line-active : (s : State) (i : ℕ) → OnLine s i → Active s i
 line-active s i (start a) = a
 line-active s i (down j x a) = a
+
+-- every active block of the line but the record's has an active child
+pub line-chained : (s : State) → ((i : ℕ) → Active s i → Occupied s i × OnLine s i) → Chained (blocksOf s) (s .activeHead)
+line-chained s line i o a ne = go i ne (line i (on-active s i a) .1)
+  where
+    go : (k : ℕ) → k ≢ s .activeHead → OnLine s k → (c : ℕ) × (holds (blocksOf s) c ≡ true) × (onChain (blocksOf s) c ≡ true) × (parentOf (blocksOf s) c ≡ k)
+    go k n (start x) = absurd (n refl)
+    go k n (down j l x) = let b = line-active s j l in (j, ne-holds (blocksOf s) j (line j b .0), active-on s j b, refl)
 
 pub sound-good : (s : State) → Sound s → Good (blocksOf s) (headsOf s) (s .activeHead) All
 sound-good s z =
@@ -34,14 +42,10 @@ sound-good s z =
         tips = λ k u. let p = z .tips k (use-ne h k u) in (ne-holds t (tipOf h k) (p .0), p .1);
         apart = λ j k uj uk q. z .different j k (use-ne h j uj) (use-ne h k uk) q;
         covered = λ i _ o a c. let (k, u, q) = z .heads i (holds-ne t i o) (off-idle s i a) .1 c in (k, ne-use h k u, q);
-        chained = λ i o a ne. chain i ne (z .line i (on-active s i a) .1);
+        chained = line-chained s (z .line);
       };
       anchored = λ k u. anchored-ends s k sh l (z .anchored k (use-ne h k u));
     }
-  where
-    chain : (i : ℕ) → i ≢ s .activeHead → OnLine s i → (c : ℕ) × (holds (blocksOf s) c ≡ true) × (onChain (blocksOf s) c ≡ true) × (parentOf (blocksOf s) c ≡ i)
-    chain i ne (start a) = absurd (ne refl)
-    chain i ne (down j x a) = let b = line-active s j x in (j, ne-holds (blocksOf s) j (z .line j b .0), active-on s j b, refl)
 
 pub good-sound : (s : State) → Good (blocksOf s) (headsOf s) (s .activeHead) All
     → ((i : ℕ) → Active s i → Occupied s i × OnLine s i)

@@ -13,10 +13,11 @@ use Rattle.rules.specs.Removal.{recounted}
 use Rattle.rules.specs.Rebuild.{emptyHeads, rebuildAt, rebuildHeads, rebuilt, restarted}
 use Rattle.rules.specs.Promises.{childrenOf}
 use Rattle.rules.proofs.Splits.{split, same?, and-true, true-not-false}
-use Rattle.rules.proofs.Kept.Table.{size, holds, onChain, holds-lt, holds-real, kids-slots}
+use Rattle.rules.proofs.Kept.Table.{Shape, Linked, size, holds, onChain, holds-lt, holds-real, kids-slots}
+use Rattle.rules.proofs.Kept.Slots.{Voids}
 use Rattle.rules.proofs.Kept.Steady.{Steady, steady-trans, ends-same}
-use Rattle.rules.proofs.Kept.Seats.{room, tipOf, inUse, kept}
-use Rattle.rules.proofs.Kept.Frame.{Frame, Good, All}
+use Rattle.rules.proofs.Kept.Seats.{Room, room, tipOf, inUse, kept}
+use Rattle.rules.proofs.Kept.Frame.{Chained, Frame, Good, All}
 use Rattle.rules.proofs.Kept.Leaves.{children-bound}
 use Rattle.rules.proofs.Kept.Place.{insert-done}
 use Rattle.rules.proofs.Kept.Sweep.{kids-are, recounted-kids, recounted-voids, recounted-kept}
@@ -110,32 +111,41 @@ unfolding inOrder
 all-upto arrival top t w p zero = p
 all-upto arrival top t w p (suc k) = once-upto arrival top k (inOrder (rebuildAt arrival top) k w) t (all-upto arrival top t w p k)
 
-module _ (t : Blocks) (h : Heads) (top arrival : ℕ) (g : Good t h top All) where
+-- what restart asks of the blocks, whatever their counts
+pub record Trunk (t : Blocks) (top : ℕ) : Type 0 where
+  pub shape : Shape t
+  pub linked : Linked t
+  pub voids : Voids t
+  pub chained : Chained t top
+  pub few : (i : ℕ) → holds t i ≡ true → childrenOf t i ≤ 255
+
+pub frame-trunk : (t : Blocks) (h : Heads) (top : ℕ) → Frame t h top All → Trunk t top
+frame-trunk t h top f = record { shape = f .counts .shape; linked = f .counts .linked; voids = f .voids; chained = f .chained; few = few-kids t h top f }
+
+module _ (t : Blocks) (h : Heads) (top arrival : ℕ) (r : Room h) (b : Trunk t top) where
   abbrev start : Tables
   start = record { blocks = recounted t; heads = emptyHeads (room h) }
 
   begins : Upto t top 0 start
-  begins =
-      let m = room h in
-      let f = recounted-good t h top All g (few-kids t h top (g .frame)) .frame in
-      record {
-        good = record {
-          frame = record {
-            counts = f .counts;
-            voids = f .voids;
-            roomy = empty-room m (f .roomy .two) (f .roomy .few);
-            blanks = λ k _. no-head m k;
-            tips = λ k u. absurd (none-used m k u);
-            apart = λ k _ u _ _. absurd (none-used m k u);
-            covered = λ i l _ _ _. absurd (omega arith);
-            chained = f .chained;
-          };
-          anchored = λ k u. absurd (none-used m k u);
+  begins = let m = room h in
+    record {
+      good = record {
+        frame = record {
+          counts = recounted-kept t (b .shape) (b .linked) (b .few);
+          voids = recounted-voids t (b .shape) (b .voids);
+          roomy = empty-room m (r .two) (r .few);
+          blanks = λ k _. no-head m k;
+          tips = λ k u. absurd (none-used m k u);
+          apart = λ k _ u _ _. absurd (none-used m k u);
+          covered = λ i l _ _ _. absurd (omega arith);
+          chained = b .chained;
         };
-        lower = λ k u. absurd (none-used m k u);
-        steady = recounted-steady t;
-        sizes = refl;
-      }
+        anchored = λ k u. absurd (none-used m k u);
+      };
+      lower = λ k u. absurd (none-used m k u);
+      steady = recounted-steady t;
+      sizes = refl;
+    }
 
   pub restart-done : Good (restarted (record { blocks = t; heads = h }) arrival top .blocks) (restarted (record { blocks = t; heads = h }) arrival top .heads) top All
       × Steady NONE t (restarted (record { blocks = t; heads = h }) arrival top .blocks)
@@ -153,7 +163,7 @@ module _ (t : Blocks) (h : Heads) (top arrival : ℕ) (g : Good t h top All) whe
           blanks = f .blanks;
           tips = f .tips;
           apart = f .apart;
-          covered = λ i _ o a z. f .covered i (let l = holds-lt (w .blocks) i o in let e = p .sizes in let k = kids-slots t (g .frame .counts .shape) in omega arith) o a z;
+          covered = λ i _ o a z. f .covered i (let l = holds-lt (w .blocks) i o in let e = p .sizes in let k = kids-slots t (b .shape) in omega arith) o a z;
           chained = f .chained;
         };
         anchored = p .good .anchored;

@@ -25,7 +25,7 @@ use Rattle.rules.proofs.Kept.Seats.{inUse, keptBy}
 use Rattle.rules.proofs.Kept.Frame.{Good, All}
 use Rattle.rules.proofs.Kept.Refresh.{stored-use}
 use Rattle.rules.proofs.Kept.Remove.{remove-done}
-use Rattle.rules.proofs.Kept.Rebuild.{restart-done}
+use Rattle.rules.proofs.Kept.Rebuild.{restart-done, frame-trunk}
 use Rattle.rules.proofs.Kept.Walked.{blocksOf, headsOf}
 use Rattle.rules.proofs.Kept.Border.{sound-good}
 use Rattle.rules.proofs.Kept.Went.{Went, quiet, turned-away}
@@ -56,7 +56,8 @@ module _ (s : State) (now : ℕ) (z : Sound s) where
   pub went-restart : Went (restartCall now) s (restart s now)
   unfolding restart
   went-restart =
-      let d = restart-done (blocksOf s) (headsOf s) (s .activeHead) now (sound-good s z) in
+      let f = sound-good s z .frame in
+      let d = restart-done (blocksOf s) (headsOf s) (s .activeHead) now (f .roomy) (frame-trunk (blocksOf s) (headsOf s) (s .activeHead) f) in
       rw (z .shape) (quiet (restartCall now) s (restarted (s .tables) now (s .activeHead)) done z (d .0) (d .1) (λ _. refl) (λ i q _. restart-not i q))
 
 -- ---- timer

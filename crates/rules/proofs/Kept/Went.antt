@@ -11,7 +11,7 @@ use Rattle.rules.specs.Calls.{State, Stepped, Call, promoteCall, keeping
 use Rattle.rules.specs.Promises.{sequence, parent, Occupied, Active, OnLine, start, down, Name, name, Accepted, slotReturned, nameGiven, Sound}
 use Rattle.rules.specs.declared.Block.{Block}
 use Rattle.rules.proofs.Splits.{split, true-not-false}
-use Rattle.rules.proofs.Kept.Table.{hashOf, holds, onChain, holds-ne, ne-holds, holds-real}
+use Rattle.rules.proofs.Kept.Table.{none-empty, Shape, hashOf, holds, onChain, holds-ne, ne-holds, holds-real}
 use Rattle.rules.proofs.Kept.Slots.{Voids}
 use Rattle.rules.proofs.Kept.Steady.{Steady, steady-refl}
 use Rattle.rules.proofs.Kept.Frame.{Good, All}
@@ -41,12 +41,13 @@ name-same s u i a b = rw (a, b) refl
 
 -- ---- a call that keeps the record; slot x may be written anew
 
-module _ (s : State) (z : Sound s) (w : Tables) (x : ℕ) (free : holds (blocksOf s) x ≡ false) (y : Steady x (blocksOf s) (w .blocks)) where
+module _ (s : State) (line : (i : ℕ) → Active s i → Occupied s i × OnLine s i) (sh : Shape (blocksOf s))
+    (w : Tables) (x : ℕ) (free : holds (blocksOf s) x ≡ false) (y : Steady x (blocksOf s) (w .blocks)) where
   abbrev u : State
   u = keeping s w
 
   was-held : (i : ℕ) → Active s i → holds (blocksOf s) i ≡ true
-  was-held i a = ne-holds (blocksOf s) i (z .line i a .0)
+  was-held i a = ne-holds (blocksOf s) i (line i a .0)
 
   pub active-stays : (i : ℕ) → Active s i → Active u i × (name u i ≡ name s i)
   active-stays i a =
@@ -61,7 +62,6 @@ module _ (s : State) (z : Sound s) (w : Tables) (x : ℕ) (free : holds (blocksO
   line-stays i (down j l a) =
       let b = line-active s j l in
       let o = was-held (parent s j) a in
-      let sh = sound-good s z .frame .counts .shape in
       let e : parent u j ≡ parent s j = y .keeps j (was-held j b) (active-on s j b) .2 (holds-real (blocksOf s) (parent s j) sh o) in
       rw (← e) (down j (line-stays j l) (rw e (active-stays (parent s j) a .0)))
 
@@ -71,34 +71,32 @@ module _ (s : State) (z : Sound s) (w : Tables) (x : ℕ) (free : holds (blocksO
       on-active s i (y .back i (chain-holds (w .blocks) i v c) c .1)
 
   pub line-on : Voids (w .blocks) → (i : ℕ) → Active u i → Occupied u i × OnLine u i
-  line-on v i a = (holds-ne (w .blocks) i (chain-holds (w .blocks) i v (active-on u i a)), line-stays i (z .line i (active-was v i a) .1))
+  line-on v i a = (holds-ne (w .blocks) i (chain-holds (w .blocks) i v (active-on u i a)), line-stays i (line i (active-was v i a) .1))
 
-  pub top-on : (u .activeHead ≡ NONE) ⊎ Active u (u .activeHead)
-  top-on = elim (z .top) [ inl e ↦ inl e | inr a ↦ inr (active-stays (s .activeHead) a .0) ]
+  pub top-on : (s .activeHead ≡ NONE) ⊎ Active s (s .activeHead) → (u .activeHead ≡ NONE) ⊎ Active u (u .activeHead)
+  top-on top = elim top [ inl e ↦ inl e | inr a ↦ inr (active-stays (s .activeHead) a .0) ]
 
 -- ---- a call that neither admits nor promotes
-
-none-free : (s : State) → Sound s → holds (blocksOf s) NONE ≡ false
-none-free s z = split (holds (blocksOf s) NONE) (λ o. absurd (holds-real (blocksOf s) NONE (sound-good s z .frame .counts .shape) o refl)) (λ e. e)
 
 pub quiet : (call : Call) (s : State) (w : Tables) (answer : Answer) → Sound s → Good (w .blocks) (w .heads) (s .activeHead) All → Steady NONE (blocksOf s) (w .blocks)
     → ((i : ℕ) → isAt (slotReturned answer) i ≡ false) → ((i : ℕ) → call ≡ promoteCall i → Accepted answer → ⊥) → Went call s (answering (keeping s w) answer)
 quiet call s w answer z g y mute never =
     let u : State = keeping s w in
-    let f = none-free s z in
+    let sh = sound-good s z .frame .counts .shape in
+    let f = none-empty (blocksOf s) sh in
     let v = g .frame .voids in
     let same : (i : ℕ) → Occupied u i → Occupied s i × (name u i ≡ name s i) = λ i o.
     let h = ne-holds (w .blocks) i o in
     let p = y .same i (holds-real (w .blocks) i (g .frame .counts .shape) h) h in
     (holds-ne (blocksOf s) i (p .0), name-same s u i (p .1) (p .2)) in
     record {
-      sound = good-sound u g (line-on s z w NONE f y v) (top-on s z w NONE f y) (λ i j oi oj q.
+      sound = good-sound u g (line-on s (z .line) sh w NONE f y v) (top-on s (z .line) sh w NONE f y (z .top)) (λ i j oi oj q.
           let a = same i oi in
           let b = same j oj in
           z .names i j (a .0) (b .0) (sym (a .1) ∙ q ∙ b .1));
-      stays = active-stays s z w NONE f y;
+      stays = active-stays s (z .line) sh w NONE f y;
       new = λ i e a. absurd (never i e a);
-      only = λ i a. inl (active-was s z w NONE f y v i a);
+      only = λ i a. inl (active-was s (z .line) sh w NONE f y v i a);
       given = λ i was o h. let p = same i o in rw (mute i) (h (p .0) ∙ ap some (sym (p .1)));
     }
 

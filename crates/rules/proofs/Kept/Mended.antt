@@ -1,0 +1,42 @@
+-- Restart works counts and heads out from the blocks alone, whatever stood in them.
+use mathlib.Core.Path.{_≡_, sym, _∙_}
+use mathlib.Core.Logic.{inl, inr}
+use Prim.Native.Nat.{ℕ}
+use Rattle.rules.specs.Records.{NONE, Tables}
+use Rattle.rules.specs.Rebuild.{restarted}
+use Rattle.rules.specs.Calls.{State, keeping, restart, step}
+use Rattle.rules.specs.Promises.{Occupied, name, Restartable, Mended}
+use Rattle.rules.proofs.Kept.Table.{parentOf, holds-ne, ne-holds, holds-real, none-empty, empty-eq}
+use Rattle.rules.proofs.Kept.Rebuild.{Trunk, restart-done}
+use Rattle.rules.proofs.Kept.Walked.{blocksOf, headsOf}
+use Rattle.rules.proofs.Kept.Shaped.{shaped-shape}
+use Rattle.rules.proofs.Kept.Border.{line-chained, good-sound}
+use Rattle.rules.proofs.Kept.Went.{name-same, active-stays, line-on, top-on}
+
+pub restart-mends : (s : State) → Restartable s → (now : ℕ) → Mended s now
+unfolding step restart
+restart-mends s z now =
+    let t = blocksOf s in
+    let (sh, ro) = shaped-shape (s .tables) (z .shape) in
+    let b : Trunk t (s .activeHead) = record {
+      shape = sh;
+      linked = λ i o. elim (z .parents i (holds-ne t i o)) [ inl e ↦ inl e | inr p ↦ inr (ne-holds t (parentOf t i) (p .0), p .1) ];
+      voids = λ i e. z .emptySlots i (λ o. o (empty-eq t i e));
+      chained = line-chained s (z .line);
+      few = λ i o. z .few i (holds-ne t i o)
+    } in
+    let d = restart-done t (headsOf s) (s .activeHead) now ro b in
+    let w : Tables = restarted (s .tables) now (s .activeHead) in
+    let u : State = keeping s w in
+    let free = none-empty t sh in
+    let same : (i : ℕ) → Occupied u i → Occupied s i × (name u i ≡ name s i) = λ i o.
+      let h = ne-holds (w .blocks) i o in
+      let p = d .1 .same i (holds-real (w .blocks) i (d .0 .frame .counts .shape) h) h in
+      (holds-ne t i (p .0), name-same s u i (p .1) (p .2)) in
+    rw (z .shape) (record {
+      sound = good-sound u (d .0) (line-on s (z .line) sh w NONE free (d .1) (d .0 .frame .voids)) (top-on s (z .line) sh w NONE free (d .1) (z .top)) (λ i j oi oj q.
+        let a = same i oi in
+        let c = same j oj in
+        z .names i j (a .0) (c .0) (sym (a .1) ∙ q ∙ c .1));
+      stays = active-stays s (z .line) sh w NONE free (d .1)
+    })

@@ -33,10 +33,11 @@ restart-mends s z now =
       let h = ne-holds (w .blocks) i o in
       let p = d .1 .same i (holds-real (w .blocks) i (d .0 .frame .counts .shape) h) h in
       (holds-ne t i (p .0), name-same s u i (p .1) (p .2)) in
-    rw (z .shape) (record {
-      sound = good-sound u (d .0) (line-on s (z .line) sh w NONE free (d .1) (d .0 .frame .voids)) (top-on s (z .line) sh w NONE free (d .1) (z .top)) (λ i j oi oj q.
-        let a = same i oi in
-        let c = same j oj in
-        z .names i j (a .0) (c .0) (sym (a .1) ∙ q ∙ c .1));
-      stays = active-stays s (z .line) sh w NONE free (d .1)
-    })
+    record {
+      sound = rw (z .shape) (good-sound u (d .0) (line-on s (z .line) sh w NONE free (d .1) (d .0 .frame .voids)) (top-on s (z .line) sh w NONE free (d .1) (z .top))
+        (λ i j oi oj q.
+          let a = same i oi in
+          let c = same j oj in
+          z .names i j (a .0) (c .0) (sym (a .1) ∙ q ∙ c .1)));
+      stays = λ i a. rw (z .shape) (active-stays s (z .line) sh w NONE free (d .1) i a)
+    }

@@ -18,13 +18,13 @@ use Rattle.rules.specs.Promises.{sequence, Occupied, Name, name, Sound}
 use Rattle.rules.proofs.Splits.{split, same?, option?, and-true, true-not-false, some-not-none}
 use Rattle.rules.proofs.Search.{lowest-holds, lowest-misses}
 use Rattle.rules.proofs.Hashes.{same-refl}
-use Rattle.rules.proofs.Kept.Table.{seqOf, hashOf, holds, Shape, holds-lt, holds-ne, ne-holds, kids-slots}
+use Rattle.rules.proofs.Kept.Table.{seqOf, hashOf, holds, Shape, holds-lt, ne-holds, kids-slots}
 use Rattle.rules.proofs.Kept.Frame.{Good, All}
 use Rattle.rules.proofs.Kept.Insert.{Fits}
 use Rattle.rules.proofs.Kept.Admit.{Admitted, admit-done}
 use Rattle.rules.proofs.Kept.Walked.{blocksOf, headsOf}
 use Rattle.rules.proofs.Kept.Border.{sound-good, good-sound}
-use Rattle.rules.proofs.Kept.Went.{Went, name-same, active-stays, active-was, line-on, top-on, turned-away}
+use Rattle.rules.proofs.Kept.Went.{other-name, Went, active-stays, active-was, line-on, top-on, turned-away}
 
 -- ---- what was found
 
@@ -93,7 +93,7 @@ module _ (s : State) (q : ℕ) (hash previous : List ℕ) (arrival x : ℕ) (z :
 
   -- another slot holds what it held
   other : (i : ℕ) → i ≢ x → Occupied u i → Occupied s i × (name u i ≡ name s i)
-  other i ne o = let p = d .steady .same i ne (ne-holds (w .blocks) i o) in (holds-ne t i (p .0), name-same s u i (p .1) (p .2))
+  other = other-name s (z .line) sh w x (fits .free) (d .steady)
 
   given-name : Name
   given-name = record { sequence = q; hash = hash }

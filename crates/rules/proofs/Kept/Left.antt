@@ -76,12 +76,12 @@ module _ (t : Blocks) (h : Heads) (top r : ℕ) (f : Frame t h top All) (root : 
       let (m, ot) = there j o in
       let p = stay j m in
       rw (p .parent, p .seq) (same? (parentOf t j) NONE
-        (λ e. inl e)
-        (λ ne.
-          let q = parent-there t j l ot ne in
-          let nr : j ≢ r = λ e. true-not-false {b = listed deleted j} (rw e (marked r ∙ mark-root t r s l root)) m in
-          let k = stay (parentOf t j) (sym (parent-listed j nr ot ne) ∙ m) in
-          inr (k .hold ∙ q .0, rw (k .seq) (q .1))))
+      (λ e. inl e)
+      (λ ne.
+      let q = parent-there t j l ot ne in
+      let nr : j ≢ r = λ e. true-not-false {b = listed deleted j} (rw e (marked r ∙ mark-root t r s l root)) m in
+      let k = stay (parentOf t j) (sym (parent-listed j nr ot ne) ∙ m) in
+      inr (k .hold ∙ q .0, rw (k .seq) (q .1))))
 
   fewer : (k : ℕ) → childrenOf u k ≤ childrenOf t k
   unfolding childrenOf occupied
@@ -94,10 +94,10 @@ module _ (t : Blocks) (h : Heads) (top r : ℕ) (f : Frame t h top All) (root : 
   lost-last i o z nz = some-child t i (omega arith) (λ c oc pc.
       let (mi, oi) = there i o in
       split (listed deleted c)
-        (λ mc. same? c r
-          (λ q. rw q at pc)
-          (λ ne. true-not-false {b = listed deleted i} (rw pc at (sym (parent-listed c ne oc (rw pc (holds-real t i s oi))) ∙ mc)) mi))
-        (λ mc. let k = stay c mc in absurd (childless u i c z (k .hold ∙ oc) (k .parent ∙ pc))))
+      (λ mc. same? c r
+      (λ q. rw q at pc)
+      (λ ne. true-not-false {b = listed deleted i} (rw pc at (sym (parent-listed c ne oc (rw pc (holds-real t i s oi))) ∙ mc)) mi))
+      (λ mc. let k = stay c mc in absurd (childless u i c z (k .hold ∙ oc) (k .parent ∙ pc))))
 
   left-chained : Chained u top
   left-chained i o a ne =
@@ -115,14 +115,14 @@ module _ (t : Blocks) (h : Heads) (top r : ℕ) (f : Frame t h top All) (root : 
 
   pub left-is : Left t u h top r deleted
   left-is = record {
-      shape = w .shapes s;
-      voids = w .voids s (f .voids);
-      linked = left-linked;
-      chained = left-chained;
-      stay = stay;
-      there = there;
-      off = off;
-      fewer = fewer;
-      lostLast = lost-last;
-      someLost = some-lost
-    }
+    shape = w .shapes s;
+    voids = w .voids s (f .voids);
+    linked = left-linked;
+    chained = left-chained;
+    stay = stay;
+    there = there;
+    off = off;
+    fewer = fewer;
+    lostLast = lost-last;
+    someLost = some-lost;
+  }

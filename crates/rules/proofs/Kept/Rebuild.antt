@@ -128,24 +128,24 @@ module _ (t : Blocks) (h : Heads) (top arrival : ℕ) (r : Room h) (b : Trunk t 
 
   begins : Upto t top 0 start
   begins = let m = room h in
-    record {
-      good = record {
-        frame = record {
-          counts = recounted-kept t (b .shape) (b .linked) (b .few);
-          voids = recounted-voids t (b .shape) (b .voids);
-          roomy = empty-room m (r .two) (r .few);
-          blanks = λ k _. no-head m k;
-          tips = λ k u. absurd (none-used m k u);
-          apart = λ k _ u _ _. absurd (none-used m k u);
-          covered = λ i l _ _ _. absurd (omega arith);
-          chained = b .chained;
+      record {
+        good = record {
+          frame = record {
+            counts = recounted-kept t (b .shape) (b .linked) (b .few);
+            voids = recounted-voids t (b .shape) (b .voids);
+            roomy = empty-room m (r .two) (r .few);
+            blanks = λ k _. no-head m k;
+            tips = λ k u. absurd (none-used m k u);
+            apart = λ k _ u _ _. absurd (none-used m k u);
+            covered = λ i l _ _ _. absurd (omega arith);
+            chained = b .chained;
+          };
+          anchored = λ k u. absurd (none-used m k u);
         };
-        anchored = λ k u. absurd (none-used m k u);
-      };
-      lower = λ k u. absurd (none-used m k u);
-      steady = recounted-steady t;
-      sizes = refl;
-    }
+        lower = λ k u. absurd (none-used m k u);
+        steady = recounted-steady t;
+        sizes = refl;
+      }
 
   pub restart-done : Good (restarted (record { blocks = t; heads = h }) arrival top .blocks) (restarted (record { blocks = t; heads = h }) arrival top .heads) top All
       × Steady NONE t (restarted (record { blocks = t; heads = h }) arrival top .blocks)

@@ -45,7 +45,7 @@ module _ (t u : Blocks) (h : Heads) (top r : ℕ) (deleted : List ℕ) (f : Fram
 
 pub remove-done : (t : Blocks) (h : Heads) (top r : ℕ) → Good t h top All → holds t r ≡ true → holdsActive t r ≡ false
     → Good (removed (record { blocks = t; heads = h }) r .blocks) (removed (record { blocks = t; heads = h }) r .heads) top All
-      × Steady NONE t (removed (record { blocks = t; heads = h }) r .blocks)
+    × Steady NONE t (removed (record { blocks = t; heads = h }) r .blocks)
 unfolding removed blocksDeleted
 remove-done t h top r g root free =
     let deleted = markSubtree (t .parents) (t .sequences) r in

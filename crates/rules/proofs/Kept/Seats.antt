@@ -79,10 +79,10 @@ pub record SameHead (h u : Heads) (r : ℕ) : Type 0 where
 pub same-head : (h u : Heads) (r : ℕ) → headAt u r ≡ headAt h r → SameHead h u r
 unfolding headAt used
 same-head h u r e = record {
-    tip = ap (λ (x : Head). x .tip .0) e;
-    busy = ap (λ (x : Head). not (eqb (x .tip .0) NONE)) e;
-    anchor = ap keptBy e
-  }
+  tip = ap (λ (x : Head). x .tip .0) e;
+  busy = ap (λ (x : Head). not (eqb (x .tip .0) NONE)) e;
+  anchor = ap keptBy e;
+}
 
 -- u is h but for slot k, whose tip is x
 pub record Seat (h u : Heads) (k x : ℕ) : Type 0 where

@@ -30,13 +30,13 @@ pub record Same (t u : Blocks) (j : ℕ) : Type 0 where
 pub same-block : (t u : Blocks) (j : ℕ) → blockAt u j ≡ blockAt t j → Same t u j
 unfolding blockAt occupied active
 same-block t u j e = record {
-    hold = ap (λ (x : Block). not (eqb (x .sequence .0) NONE)) e;
-    seq = ap (λ (x : Block). x .sequence .0) e;
-    parent = ap (λ (x : Block). x .parent .0) e;
-    count = ap (λ (x : Block). x .count) e;
-    hash = ap (λ (x : Block). x .hash) e;
-    chain = ap (λ (x : Block). eqb (x .flags % 2) 1) e
-  }
+  hold = ap (λ (x : Block). not (eqb (x .sequence .0) NONE)) e;
+  seq = ap (λ (x : Block). x .sequence .0) e;
+  parent = ap (λ (x : Block). x .parent .0) e;
+  count = ap (λ (x : Block). x .count) e;
+  hash = ap (λ (x : Block). x .hash) e;
+  chain = ap (λ (x : Block). eqb (x .flags % 2) 1) e;
+}
 
 -- u is t but for slot i
 pub record But (t u : Blocks) (i : ℕ) : Type 0 where

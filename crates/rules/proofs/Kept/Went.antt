@@ -76,6 +76,18 @@ module _ (s : State) (line : (i : ℕ) → Active s i → Occupied s i × OnLine
   pub top-on : (s .activeHead ≡ NONE) ⊎ Active s (s .activeHead) → (u .activeHead ≡ NONE) ⊎ Active u (u .activeHead)
   top-on top = elim top [ inl e ↦ inl e | inr a ↦ inr (active-stays (s .activeHead) a .0) ]
 
+  -- another slot holds what it held
+  pub other-name : (i : ℕ) → i ≢ x → Occupied u i → Occupied s i × (name u i ≡ name s i)
+  other-name i ne o = let p = y .same i ne (ne-holds (w .blocks) i o) in (holds-ne (blocksOf s) i (p .0), name-same s u i (p .1) (p .2))
+
+  -- where no slot was written anew, no two blocks share a name still
+  pub names-on : ((i : ℕ) → Occupied u i → i ≢ x) → ((i j : ℕ) → Occupied s i → Occupied s j → name s i ≡ name s j → i ≡ j)
+      → (i j : ℕ) → Occupied u i → Occupied u j → name u i ≡ name u j → i ≡ j
+  names-on old names i j oi oj q =
+      let a = other-name i (old i oi) oi in
+      let b = other-name j (old j oj) oj in
+      names i j (a .0) (b .0) (sym (a .1) ∙ q ∙ b .1)
+
 -- ---- a call that neither admits nor promotes
 
 pub quiet : (call : Call) (s : State) (w : Tables) (answer : Answer) → Sound s → Good (w .blocks) (w .heads) (s .activeHead) All → Steady NONE (blocksOf s) (w .blocks)
@@ -85,19 +97,13 @@ quiet call s w answer z g y mute never =
     let sh = sound-good s z .frame .counts .shape in
     let f = none-empty (blocksOf s) sh in
     let v = g .frame .voids in
-    let same : (i : ℕ) → Occupied u i → Occupied s i × (name u i ≡ name s i) = λ i o.
-    let h = ne-holds (w .blocks) i o in
-    let p = y .same i (holds-real (w .blocks) i (g .frame .counts .shape) h) h in
-    (holds-ne (blocksOf s) i (p .0), name-same s u i (p .1) (p .2)) in
+    let old : (i : ℕ) → Occupied u i → i ≢ NONE = λ i o. holds-real (w .blocks) i (g .frame .counts .shape) (ne-holds (w .blocks) i o) in
     record {
-      sound = good-sound u g (line-on s (z .line) sh w NONE f y v) (top-on s (z .line) sh w NONE f y (z .top)) (λ i j oi oj q.
-          let a = same i oi in
-          let b = same j oj in
-          z .names i j (a .0) (b .0) (sym (a .1) ∙ q ∙ b .1));
+      sound = good-sound u g (line-on s (z .line) sh w NONE f y v) (top-on s (z .line) sh w NONE f y (z .top)) (names-on s (z .line) sh w NONE f y old (z .names));
       stays = active-stays s (z .line) sh w NONE f y;
       new = λ i e a. absurd (never i e a);
       only = λ i a. inl (active-was s (z .line) sh w NONE f y v i a);
-      given = λ i was o h. let p = same i o in rw (mute i) (h (p .0) ∙ ap some (sym (p .1)));
+      given = λ i was o h. let p = other-name s (z .line) sh w NONE f y i (old i o) o in rw (mute i) (h (p .0) ∙ ap some (sym (p .1)));
     }
 
 pub turned-away : (call : Call) (s : State) (number : ℕ) → Sound s → Went call s (refuse s number)

@@ -160,16 +160,9 @@ lastAdmitted i was (made ∷ log) = lastAdmitted i (if isAt (slotReturned (made 
 
 -- ---- the promises
 
--- of a state
-pub record Sound (s : State) : Type 0 where
+-- of the blocks, their counts apart
+pub record Tree (s : State) : Type 0 where
   pub shape : shaped (s .tables) ≡ true
-  -- each occupied block off the active chain counts max(1, its children) and is a head exactly when it has no child
-  pub counts : (i : ℕ) → Occupied s i → Not (Active s i) → count s i ≡ max 1 (children s i)
-  pub heads : (i : ℕ) → Occupied s i → Not (Active s i) → IsHead s i ↔ (children s i ≡ 0)
-  -- all tips in use are occupied, childless and different
-  pub tips : (k : ℕ) → InUse s k → Occupied s (tip s k) × (children s (tip s k) ≡ 0)
-  pub different : (j k : ℕ) → InUse s j → InUse s k → tip s j ≡ tip s k → j ≡ k
-  pub anchored : (k : ℕ) → InUse s k → Anchored s k
   -- a parent is an occupied slot, one lower in sequence
   pub parents : (i : ℕ) → Occupied s i → (parent s i ≡ NONE) ⊎ (Occupied s (parent s i) × (suc (sequence s (parent s i)) ≡ sequence s i))
   -- the active blocks are one unbroken line of parents that ends at the record
@@ -177,12 +170,27 @@ pub record Sound (s : State) : Type 0 where
   pub top : (s .activeHead ≡ NONE) ⊎ Active s (s .activeHead)
   -- no two occupied blocks share sequence and hash
   pub names : (i j : ℕ) → Occupied s i → Occupied s j → name s i ≡ name s j → i ≡ j
-  -- empty slots and heads are the fixed records
+  -- an empty slot is the fixed record
   pub emptySlots : (i : ℕ) → Not (Occupied s i) → blockAt (s .tables .blocks) i ≡ emptyBlock
+
+-- of a state
+pub record Sound (s : State) : Type 0 where
+  pub tree : Tree s
+  -- each occupied block off the active chain counts max(1, its children) and is a head exactly when it has no child
+  pub counts : (i : ℕ) → Occupied s i → Not (Active s i) → count s i ≡ max 1 (children s i)
+  pub heads : (i : ℕ) → Occupied s i → Not (Active s i) → IsHead s i ↔ (children s i ≡ 0)
+  -- all tips in use are occupied, childless and different
+  pub tips : (k : ℕ) → InUse s k → Occupied s (tip s k) × (children s (tip s k) ≡ 0)
+  pub different : (j k : ℕ) → InUse s j → InUse s k → tip s j ≡ tip s k → j ≡ k
+  -- each head is connected exactly when its walk meets an active block, and anchored there or at the walk's last block
+  pub anchored : (k : ℕ) → InUse s k → Anchored s k
+  -- an empty head is the fixed record
   pub emptyHeads : (k : ℕ) → Not (InUse s k) → headAt (s .tables .heads) k ≡ emptyHead
   -- a full head table has a victim
   pub victims : ((k : ℕ) → k < headsIn (s .tables) → InUse s k)
       → victim (s .tables .blocks .hashes) (s .tables .blocks .sequences) (s .tables .heads .tips) (s .activeHead) ≢ none
+  -- a block has no more children than there are heads, and one more
+  pub few : (i : ℕ) → Occupied s i → children s i ≤ suc (headsIn (s .tables))
 
 -- of a state and the calls that led to it
 pub record Recorded (log : List Made) (s : State) : Type 0 where
@@ -199,20 +207,7 @@ pub record Promise (log : List Made) (s : State) (calls : List Call) : Type 0 wh
   pub stays : (more : List Call) (i : ℕ) → Promoted i (log ++ made s calls)
       → Occupied (run s (calls ++ more)) i × Active (run s (calls ++ more)) i × (name (run s (calls ++ more)) i ≡ name (run s calls) i)
 
--- ---- restart, from blocks alone
-
--- what restart asks of a state: of its counts and heads nothing but their lengths
-pub record Restartable (s : State) : Type 0 where
-  pub shape : shaped (s .tables) ≡ true
-  pub parents : (i : ℕ) → Occupied s i → (parent s i ≡ NONE) ⊎ (Occupied s (parent s i) × (suc (sequence s (parent s i)) ≡ sequence s i))
-  pub line : (i : ℕ) → Active s i → Occupied s i × OnLine s i
-  pub top : (s .activeHead ≡ NONE) ⊎ Active s (s .activeHead)
-  pub names : (i j : ℕ) → Occupied s i → Occupied s j → name s i ≡ name s j → i ≡ j
-  pub emptySlots : (i : ℕ) → Not (Occupied s i) → blockAt (s .tables .blocks) i ≡ emptyBlock
-  -- a count holds no more
-  pub few : (i : ℕ) → Occupied s i → children s i ≤ 255
-
--- what it leaves
+-- of a restart from blocks whose counts, and heads, may be anything
 pub record Mended (s : State) (now : ℕ) : Type 0 where
   pub sound : Sound (step s (restartCall now) .after)
   pub stays : (i : ℕ) → Active s i → Active (step s (restartCall now) .after) i × (name (step s (restartCall now) .after) i ≡ name s i)

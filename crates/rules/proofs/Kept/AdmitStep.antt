@@ -93,7 +93,7 @@ module _ (s : State) (q : ℕ) (hash previous : List ℕ) (arrival x : ℕ) (z :
 
   -- another slot holds what it held
   other : (i : ℕ) → i ≢ x → Occupied u i → Occupied s i × (name u i ≡ name s i)
-  other = other-name s (z .line) sh w x (fits .free) (d .steady)
+  other = other-name s (z .tree .line) sh w x (fits .free) (d .steady)
 
   given-name : Name
   given-name = record { sequence = q; hash = hash }
@@ -123,7 +123,7 @@ module _ (s : State) (q : ℕ) (hash previous : List ℕ) (arrival x : ℕ) (z :
       (λ b.
       let p = other i a oi in
       let r = other j b oj in
-      z .names i j (p .0) (r .0) (sym (p .1) ∙ e ∙ r .1)))
+      z .tree .names i j (p .0) (r .0) (sym (p .1) ∙ e ∙ r .1)))
 
   pub admitted-went : Went (admitCall q hash previous arrival) s (answering u (slot x))
   unfolding given-name
@@ -132,10 +132,10 @@ module _ (s : State) (q : ℕ) (hash previous : List ℕ) (arrival x : ℕ) (z :
       let y = d .steady in
       let v = d .good .frame .voids in
       record {
-        sound = good-sound u (d .good) (line-on s (z .line) sh w x free y v) (top-on s (z .line) sh w x free y (z .top)) names;
-        stays = active-stays s (z .line) sh w x free y;
+        sound = good-sound u (d .good) (line-on s (z .tree .line) sh w x free y v) (top-on s (z .tree .line) sh w x free y (z .tree .top)) names;
+        stays = active-stays s (z .tree .line) sh w x free y;
         new = λ i e _. let c : _≡_ {A = ℕ} 0 1 = cc in absurd (omega arith);
-        only = λ i a. inl (active-was s (z .line) sh w x free y v i a);
+        only = λ i a. inl (active-was s (z .tree .line) sh w x free y v i a);
         given = λ i was o h. same? x i
             (λ e. rw (eq-eqb x i e) (ap some (sym own) ∙ (rw e refl)))
             (λ ne. let p = other i (λ e. ne (sym e)) o in rw (ne-eqb x i ne) (h (p .0) ∙ ap some (sym (p .1))));
@@ -152,7 +152,7 @@ module _ (s : State) (q : ℕ) (hash previous : List ℕ) (arrival : ℕ) (z : S
 
   pub went-admit : Went c s (admit s q hash previous arrival)
   unfolding admit
-  went-admit = rw (z .shape) (split (eqb (length hash) hashLength && eqb (length previous) hashLength)
+  went-admit = rw (z .tree .shape) (split (eqb (length hash) hashLength && eqb (length previous) hashLength)
       (λ e2. split (eqb q NONE)
       (λ e4. rw (e2, e4) (turned-away c s 4 z))
       (λ e4. split (sameHash hash zeroHash)

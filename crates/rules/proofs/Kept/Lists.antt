@@ -125,5 +125,5 @@ list-promise log s z r calls =
       stays = λ more i p.
           let q = list-stays more (run s calls) (k .0) i (k .1 .promoted i .1 p) in
           let v = list-sound more (run s calls) (k .0) in
-          rw (run-append calls more s) (v .line i (q .0) .0, q .0, q .1);
+          rw (run-append calls more s) (v .tree .line i (q .0) .0, q .0, q .1);
     }

@@ -1,28 +1,28 @@
 -- Restart works counts and heads out from the blocks alone, whatever stood in them.
-use mathlib.Core.Logic.{_≢_, inl, inr}
-use Prim.Native.Nat.{ℕ}
+use mathlib.Core.Logic.{_≢_}
+use Prim.Native.Nat.{ℕ, _≤_}
 use Rattle.rules.specs.Records.{NONE, Tables}
 use Rattle.rules.specs.Rebuild.{restarted}
 use Rattle.rules.specs.Calls.{State, keeping, restart, step}
-use Rattle.rules.specs.Promises.{Occupied, Restartable, Mended}
-use Rattle.rules.proofs.Kept.Table.{parentOf, holds-ne, ne-holds, holds-real, none-empty, empty-eq}
+use Rattle.rules.specs.Promises.{Occupied, Tree, children, Mended}
+use Rattle.rules.proofs.Kept.Table.{holds-ne, ne-holds, holds-real, none-empty}
 use Rattle.rules.proofs.Kept.Rebuild.{Trunk, restart-done}
 use Rattle.rules.proofs.Kept.Walked.{blocksOf, headsOf}
 use Rattle.rules.proofs.Kept.Shaped.{shaped-shape}
-use Rattle.rules.proofs.Kept.Border.{line-chained, good-sound}
+use Rattle.rules.proofs.Kept.Border.{line-chained, tree-linked, tree-voids, good-sound}
 use Rattle.rules.proofs.Kept.Went.{active-stays, line-on, top-on, names-on}
 
-pub restart-mends : (s : State) → Restartable s → (now : ℕ) → Mended s now
+pub restart-mends : (s : State) → Tree s → ((i : ℕ) → Occupied s i → children s i ≤ 255) → (now : ℕ) → Mended s now
 unfolding step restart
-restart-mends s z now =
+restart-mends s z few now =
     let t = blocksOf s in
     let (sh, ro) = shaped-shape (s .tables) (z .shape) in
     let b : Trunk t (s .activeHead) = record {
       shape = sh;
-      linked = λ i o. elim (z .parents i (holds-ne t i o)) [ inl e ↦ inl e | inr p ↦ inr (ne-holds t (parentOf t i) (p .0), p .1) ];
-      voids = λ i e. z .emptySlots i (λ o. o (empty-eq t i e));
+      linked = tree-linked s z;
+      voids = tree-voids s z;
       chained = line-chained s (z .line);
-      few = λ i o. z .few i (holds-ne t i o);
+      few = λ i o. few i (holds-ne t i o);
     } in
     let d = restart-done t (headsOf s) (s .activeHead) now ro b in
     let w : Tables = restarted (s .tables) now (s .activeHead) in

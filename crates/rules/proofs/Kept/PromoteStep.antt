@@ -57,7 +57,7 @@ module _ (s : State) (i : ℕ) (z : Sound s) (o : holds (blocksOf s) i ≡ true)
   module _ (acc : (s .activeHead ≡ NONE) ⊎ (parent s i ≡ s .activeHead)) where
     lift : (j : ℕ) → OnLine s j → OnLine u j
     lift j (start a) = elim acc [
-      | inl e ↦ true-not-false {b = holds t NONE} (rw e at (ne-holds t (s .activeHead) (z .line (s .activeHead) a .0))) (none-empty t sh)
+      | inl e ↦ true-not-false {b = holds t NONE} (rw e at (ne-holds t (s .activeHead) (z .tree .line (s .activeHead) a .0))) (none-empty t sh)
       | inr e ↦ rw (← e) (down i (start here) (rw e (up (s .activeHead) a)))
     ]
     lift j (down k l a) = down k (lift k l) (up (parent s k) a)
@@ -67,9 +67,9 @@ module _ (s : State) (i : ℕ) (z : Sound s) (o : holds (blocksOf s) i ≡ true)
       sound = good-sound u (recomputed b i All (headsOf s) (promote-frame t (headsOf s) (s .activeHead) i f o acc))
           (λ j a. same? j i
           (λ q. rw q (holds-ne t i o, start here))
-          (λ ne. let w = z .line j (was j ne a) in (w .0, lift j (w .1))))
+          (λ ne. let w = z .tree .line j (was j ne a) in (w .0, lift j (w .1))))
           (inr here)
-          (z .names);
+          (z .tree .names);
       stays = λ j a. (up j a, refl);
       new = λ j e _. let q : i ≡ j = cc in rw (← q) here;
       only = λ j a. same? j i
@@ -88,7 +88,7 @@ module _ (s : State) (i : ℕ) (z : Sound s) where
 
   pub went-promote : Went (promoteCall i) s (promote s i)
   unfolding promote
-  went-promote = rw (z .shape) (split (holds (blocksOf s) i)
+  went-promote = rw (z .tree .shape) (split (holds (blocksOf s) i)
       (λ o. split (isNext s i)
       (λ e. rw (o, e, promoted-is s i z o) (promoted-went s i z o (next-is e)))
       (λ e. rw (o, e) (turned-away (promoteCall i) s 8 z)))

@@ -38,7 +38,7 @@ module _ (s : State) (r : ℕ) (z : Sound s) where
 
   pub went-remove : Went (removeCall r) s (remove s r)
   unfolding remove
-  went-remove = rw (z .shape) (split (holds (blocksOf s) r)
+  went-remove = rw (z .tree .shape) (split (holds (blocksOf s) r)
       (λ o. split (holdsActive (blocksOf s) r)
       (λ e. rw (o, e) (turned-away (removeCall r) s 9 z))
       (λ e.
@@ -58,7 +58,7 @@ module _ (s : State) (now : ℕ) (z : Sound s) where
   went-restart =
       let f = sound-good s z .frame in
       let d = restart-done (blocksOf s) (headsOf s) (s .activeHead) now (f .roomy) (frame-trunk (blocksOf s) (headsOf s) (s .activeHead) f) in
-      rw (z .shape) (quiet (restartCall now) s (restarted (s .tables) now (s .activeHead)) done z (d .0) (d .1) (λ _. refl) (λ i q _. restart-not i q))
+      rw (z .tree .shape) (quiet (restartCall now) s (restarted (s .tables) now (s .activeHead)) done z (d .0) (d .1) (λ _. refl) (λ i q _. restart-not i q))
 
 -- ---- timer
 
@@ -135,7 +135,7 @@ module _ (s : State) (now : ℕ) (span : Option ℕ) (z : Sound s) where
 
   pub went-timer : Went (timerCall now span) s (timer s now span)
   unfolding timer
-  went-timer = rw (z .shape) (option? pick
+  went-timer = rw (z .tree .shape) (option? pick
       (λ e. rw (found-none e) silent)
       (λ k e. split (occupied (b .sequences) (tailAt (h .tails) k))
       (λ o. rw (found-some k e, ask-yes k o) (asking k (claimed (sequenceAt (b .sequences) (tailAt (h .tails) k))) (picked-use k e)))

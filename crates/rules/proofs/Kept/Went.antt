@@ -99,11 +99,11 @@ quiet call s w answer z g y mute never =
     let v = g .frame .voids in
     let old : (i : ℕ) → Occupied u i → i ≢ NONE = λ i o. holds-real (w .blocks) i (g .frame .counts .shape) (ne-holds (w .blocks) i o) in
     record {
-      sound = good-sound u g (line-on s (z .line) sh w NONE f y v) (top-on s (z .line) sh w NONE f y (z .top)) (names-on s (z .line) sh w NONE f y old (z .names));
-      stays = active-stays s (z .line) sh w NONE f y;
+      sound = good-sound u g (line-on s (z .tree .line) sh w NONE f y v) (top-on s (z .tree .line) sh w NONE f y (z .tree .top)) (names-on s (z .tree .line) sh w NONE f y old (z .tree .names));
+      stays = active-stays s (z .tree .line) sh w NONE f y;
       new = λ i e a. absurd (never i e a);
-      only = λ i a. inl (active-was s (z .line) sh w NONE f y v i a);
-      given = λ i was o h. let p = other-name s (z .line) sh w NONE f y i (old i o) o in rw (mute i) (h (p .0) ∙ ap some (sym (p .1)));
+      only = λ i a. inl (active-was s (z .tree .line) sh w NONE f y v i a);
+      given = λ i was o h. let p = other-name s (z .tree .line) sh w NONE f y i (old i o) o in rw (mute i) (h (p .0) ∙ ap some (sym (p .1)));
     }
 
 pub turned-away : (call : Call) (s : State) (number : ℕ) → Sound s → Went call s (refuse s number)

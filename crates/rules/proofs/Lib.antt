@@ -6,3 +6,4 @@ pub mod Walks
 pub mod Marked
 pub mod Kept
 pub mod Demand3
+pub mod Trials

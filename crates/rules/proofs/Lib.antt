@@ -2,9 +2,11 @@ pub mod Splits
 pub mod Cells
 pub mod Search
 pub mod Best
+pub mod Each
+pub mod Freed
 pub mod Hashes
 pub mod Walks
 pub mod Rank
 pub mod Marked
-pub mod Each
-pub mod Freed
+pub mod Kept
+pub mod Demand3

@@ -14,3 +14,4 @@ pub mod Rank
 pub mod Answers
 pub mod Calls
 pub mod Marked
+pub mod Promises

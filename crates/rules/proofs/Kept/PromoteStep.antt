@@ -1,0 +1,95 @@
+-- Promotion as a call of a list.
+use mathlib.Core.Path.{_≡_, refl, sym, ap, _∙_}
+use mathlib.Core.Logic.{_≢_, _⊎_, inl, inr}
+use mathlib.Core.Bool.{Bool, true, false, _||_}
+use Prim.Native.Nat.{ℕ}
+use native.Mathlib.Omega.{arith}
+use lib.Dec.{eqb}
+use borrow.Author.Tests.{eqb-true}
+use Rattle.rules.specs.Records.{NONE, Blocks}
+use Rattle.rules.specs.Caches.{recomputeHeads}
+use Rattle.rules.specs.Promotion.{promoted}
+use Rattle.rules.specs.Answers.{done}
+use Rattle.rules.specs.Calls.{State, promoteCall, answering, isNext, promote}
+use Rattle.rules.specs.Promises.{parent, Active, OnLine, start, down, Sound}
+use Rattle.rules.proofs.Splits.{split, same?, true-not-false}
+use Rattle.rules.proofs.Kept.Table.{parentOf, holds, Shape, holds-ne, ne-holds, none-empty}
+use Rattle.rules.proofs.Kept.Frame.{Frame, All}
+use Rattle.rules.proofs.Kept.Recomputed.{recomputed}
+use Rattle.rules.proofs.Kept.Promote.{setFlags, lit, activate-is, lit-here, lit-other, promote-frame}
+use Rattle.rules.proofs.Kept.Walked.{blocksOf, headsOf, active-on, on-active}
+use Rattle.rules.proofs.Kept.Border.{sound-good, good-sound}
+use Rattle.rules.proofs.Kept.Went.{Went, turned-away}
+
+or-true : (a b : Bool) → (a || b) ≡ true → (a ≡ true) ⊎ (b ≡ true)
+or-true true b e = inl refl
+or-true false b e = inr e
+
+module _ (s : State) (i : ℕ) (z : Sound s) (o : holds (blocksOf s) i ≡ true) where
+  abbrev t : Blocks
+  t = blocksOf s
+
+  f : Frame t (headsOf s) (s .activeHead) All
+  f = sound-good s z .frame
+
+  sh : Shape t
+  sh = f .counts .shape
+
+  abbrev b : Blocks
+  b = setFlags t i (lit t i)
+
+  abbrev u : State
+  u = record { tables = record { blocks = b; heads = recomputeHeads b (headsOf s) }; activeHead = i }
+
+  promoted-is : promoted (s .tables) i ≡ u .tables
+  unfolding promoted
+  promoted-is = rw (activate-is t i sh o)
+
+  here : Active u i
+  here = on-active u i (lit-here t i sh o)
+
+  up : (j : ℕ) → Active s j → Active u j
+  up j a = same? j i (λ q. rw q here) (λ ne. on-active u j (lit-other t i sh o j ne ∙ active-on s j a))
+
+  was : (j : ℕ) → j ≢ i → Active u j → Active s j
+  was j ne a = on-active s j (sym (lit-other t i sh o j ne) ∙ active-on u j a)
+
+  module _ (acc : (s .activeHead ≡ NONE) ⊎ (parent s i ≡ s .activeHead)) where
+    lift : (j : ℕ) → OnLine s j → OnLine u j
+    lift j (start a) = elim acc [
+      | inl e ↦ true-not-false {b = holds t NONE} (rw e at (ne-holds t (s .activeHead) (z .tree .line (s .activeHead) a .0))) (none-empty t sh)
+      | inr e ↦ rw (← e) (down i (start here) (rw e (up (s .activeHead) a)))
+    ]
+    lift j (down k l a) = down k (lift k l) (up (parent s k) a)
+
+    pub promoted-went : Went (promoteCall i) s (answering u done)
+    promoted-went = record {
+      sound = good-sound u (recomputed b i All (headsOf s) (promote-frame t (headsOf s) (s .activeHead) i f o acc))
+          (λ j a. same? j i
+          (λ q. rw q (holds-ne t i o, start here))
+          (λ ne. let w = z .tree .line j (was j ne a) in (w .0, lift j (w .1))))
+          (inr here)
+          (z .tree .names);
+      stays = λ j a. (up j a, refl);
+      new = λ j e _. let q : i ≡ j = cc in rw (← q) here;
+      only = λ j a. same? j i
+          (λ q. inr (ap promoteCall (sym q), λ n e. let c : _≡_ {A = ℕ} 0 1 = cc in omega arith))
+          (λ ne. inl (was j ne a));
+      given = λ j name-was oj h. h oj;
+    }
+
+module _ (s : State) (i : ℕ) (z : Sound s) where
+  next-is : isNext s i ≡ true → (s .activeHead ≡ NONE) ⊎ (parent s i ≡ s .activeHead)
+  unfolding isNext
+  next-is e = elim (or-true (eqb (s .activeHead) NONE) (eqb (parentOf (blocksOf s) i) (s .activeHead)) e) [
+    | inl k ↦ inl (eqb-true (s .activeHead) NONE k)
+    | inr k ↦ inr (eqb-true (parentOf (blocksOf s) i) (s .activeHead) k)
+  ]
+
+  pub went-promote : Went (promoteCall i) s (promote s i)
+  unfolding promote
+  went-promote = rw (z .tree .shape) (split (holds (blocksOf s) i)
+      (λ o. split (isNext s i)
+      (λ e. rw (o, e, promoted-is s i z o) (promoted-went s i z o (next-is e)))
+      (λ e. rw (o, e) (turned-away (promoteCall i) s 8 z)))
+      (λ o. rw o (turned-away (promoteCall i) s 3 z)))

@@ -1,0 +1,173 @@
+-- Restart keeps both tables (01, "Rebuild").
+use mathlib.Core.Path.{_≡_, refl, sym, _∙_}
+use mathlib.Core.Bool.{Bool, true, false, _&&_}
+use Prim.Native.Nat.{ℕ, zero, suc, _≤_, _<_}
+use native.Mathlib.Omega.{arith}
+use borrow.Author.Tests.{eqb-true, eq-eqb}
+use Rattle.rules.specs.Common.{inOrder}
+use Rattle.rules.specs.Hashes.{zeroHash}
+use Rattle.rules.specs.Records.{NONE, Blocks, Heads, Tables, slotsOf}
+use Rattle.rules.specs.BlockTable.{childless, children}
+use Rattle.rules.specs.Admission.{insertHead}
+use Rattle.rules.specs.Removal.{recounted}
+use Rattle.rules.specs.Rebuild.{emptyHeads, rebuildAt, rebuildHeads, rebuilt, restarted}
+use Rattle.rules.specs.Promises.{childrenOf}
+use Rattle.rules.proofs.Splits.{split, same?, and-true, true-not-false}
+use Rattle.rules.proofs.Kept.Table.{Shape, Linked, size, holds, onChain, holds-lt, holds-real, kids-slots}
+use Rattle.rules.proofs.Kept.Slots.{Voids}
+use Rattle.rules.proofs.Kept.Steady.{Steady, steady-trans, ends-same}
+use Rattle.rules.proofs.Kept.Seats.{Room, room, tipOf, inUse, kept}
+use Rattle.rules.proofs.Kept.Frame.{Chained, Frame, Good, All}
+use Rattle.rules.proofs.Kept.Leaves.{children-bound}
+use Rattle.rules.proofs.Kept.Place.{insert-done}
+use Rattle.rules.proofs.Kept.Sweep.{kids-are, recounted-kids, recounted-voids, recounted-kept}
+use Rattle.rules.proofs.Kept.Empty.{no-head, none-used, empty-room}
+
+-- counts may be set again at any time
+recounted-good : (t : Blocks) (h : Heads) (top : ℕ) (C : ℕ → Type 0) → Good t h top C → ((i : ℕ) → holds t i ≡ true → childrenOf t i ≤ 255) → Good (recounted t) h top C
+recounted-good t h top C g few =
+    let f = g .frame in
+    let s = f .counts .shape in
+    record {
+      frame = record {
+        counts = recounted-kept t s (f .counts .linked) few;
+        voids = recounted-voids t s (f .voids);
+        roomy = f .roomy;
+        blanks = f .blanks;
+        tips = λ k u. let p = f .tips k u in (p .0, rw (recounted-kids t s) (p .1));
+        apart = f .apart;
+        covered = λ i c o a z. f .covered i c o a (rw (recounted-kids t s) at z);
+        chained = f .chained;
+      };
+      anchored = λ k u. ends-same t (recounted t) (λ _. (refl, refl, refl)) (tipOf h k) (kept h k) (g .anchored k u);
+    }
+
+recounted-steady : (t : Blocks) → Steady NONE t (recounted t)
+recounted-steady t = record { keeps = λ _ o a. (o, a, λ _. refl); back = λ _ o a. (o, a); same = λ _ _ o. (o, refl, refl) }
+
+few-kids : (t : Blocks) (h : Heads) (top : ℕ) → Frame t h top All → (i : ℕ) → holds t i ≡ true → childrenOf t i ≤ 255
+few-kids t h top f i o = omega (arith, f .roomy .few, children-bound t h top All f (λ _. tt) i (holds-real t i (f .counts .shape) o))
+
+-- the first k slots are done
+record Upto (t : Blocks) (top k : ℕ) (w : Tables) : Type 0 where
+  good : Good (w .blocks) (w .heads) top (λ i. i < k)
+  lower : (s : ℕ) → inUse (w .heads) s ≡ true → tipOf (w .heads) s < k
+  steady : Steady NONE t (w .blocks)
+  sizes : size (w .blocks) ≡ size t
+
+module _ (arrival top k : ℕ) (w : Tables) where
+  abbrev leaf? : Bool
+  leaf? = holds (w .blocks) k && childless (w .blocks .parents) (w .blocks .sequences) k
+
+  turn-yes : leaf? ≡ true → rebuildAt arrival top k w ≡ insertHead w k arrival NONE zeroHash top
+  unfolding rebuildAt
+  turn-yes e = rw e
+
+  turn-no : leaf? ≡ false → rebuildAt arrival top k w ≡ w
+  unfolding rebuildAt
+  turn-no e = rw e
+
+  once-upto : (t : Blocks) → Upto t top k w → Upto t top (suc k) (rebuildAt arrival top k w)
+  unfolding childless
+  once-upto t p = let f = p .good .frame in split leaf?
+      (λ e.
+      let c = and-true (holds (w .blocks) k) (childless (w .blocks .parents) (w .blocks .sequences) k) e in
+      let d = insert-done (w .blocks) (w .heads) top k arrival NONE zeroHash (onChain (w .blocks) k) (λ i. i < k) (λ i. i < suc k) (λ i l ne. omega arith) (record {
+        good = p .good;
+        home = c .0;
+        fresh = refl;
+        bottom = sym (kids-are (w .blocks) (f .counts .shape) k) ∙ eqb-true (children (w .blocks .parents) (w .blocks .sequences) k) 0 (c .1);
+        bare = λ r u q. absurd (omega (arith, p .lower r u));
+      }) in
+      rw (turn-yes e) (record {
+        good = d .good;
+        lower = d .from (λ i. i < suc k) (omega arith) (λ r u. omega (arith, p .lower r u));
+        steady = steady-trans NONE t (w .blocks) ((insertHead w k arrival NONE zeroHash top) .blocks) (p .steady) (d .steady);
+        sizes = d .sizes ∙ p .sizes;
+      }))
+      (λ e. rw (turn-no e) (record {
+        good = record {
+          frame = record {
+            counts = f .counts;
+            voids = f .voids;
+            roomy = f .roomy;
+            blanks = f .blanks;
+            tips = f .tips;
+            apart = f .apart;
+            covered = λ i l o a z. same? i k
+                (λ q. true-not-false {b = leaf?} (rw (rw q at o, kids-are (w .blocks) (f .counts .shape) k, eq-eqb (childrenOf (w .blocks) k) 0 (rw q at z)) refl) e)
+                (λ ne. f .covered i (omega arith) o a z);
+            chained = f .chained;
+          };
+          anchored = p .good .anchored;
+        };
+        lower = λ s u. omega (arith, p .lower s u);
+        steady = p .steady;
+        sizes = p .sizes;
+      }))
+
+all-upto : (arrival top : ℕ) (t : Blocks) (w : Tables) → Upto t top 0 w → (k : ℕ) → Upto t top k (inOrder (rebuildAt arrival top) k w)
+unfolding inOrder
+all-upto arrival top t w p zero = p
+all-upto arrival top t w p (suc k) = once-upto arrival top k (inOrder (rebuildAt arrival top) k w) t (all-upto arrival top t w p k)
+
+-- what restart asks of the blocks, whatever their counts
+pub record Trunk (t : Blocks) (top : ℕ) : Type 0 where
+  pub shape : Shape t
+  pub linked : Linked t
+  pub voids : Voids t
+  pub chained : Chained t top
+  pub few : (i : ℕ) → holds t i ≡ true → childrenOf t i ≤ 255
+
+pub frame-trunk : (t : Blocks) (h : Heads) (top : ℕ) → Frame t h top All → Trunk t top
+frame-trunk t h top f = record { shape = f .counts .shape; linked = f .counts .linked; voids = f .voids; chained = f .chained; few = few-kids t h top f }
+
+module _ (t : Blocks) (h : Heads) (top arrival : ℕ) (r : Room h) (b : Trunk t top) where
+  abbrev start : Tables
+  start = record { blocks = recounted t; heads = emptyHeads (room h) }
+
+  begins : Upto t top 0 start
+  begins = let m = room h in
+      record {
+        good = record {
+          frame = record {
+            counts = recounted-kept t (b .shape) (b .linked) (b .few);
+            voids = recounted-voids t (b .shape) (b .voids);
+            roomy = empty-room m (r .two) (r .few);
+            blanks = λ k _. no-head m k;
+            tips = λ k u. absurd (none-used m k u);
+            apart = λ k _ u _ _. absurd (none-used m k u);
+            covered = λ i l _ _ _. absurd (omega arith);
+            chained = b .chained;
+          };
+          anchored = λ k u. absurd (none-used m k u);
+        };
+        lower = λ k u. absurd (none-used m k u);
+        steady = recounted-steady t;
+        sizes = refl;
+      }
+
+  pub restart-done : Good (restarted (record { blocks = t; heads = h }) arrival top .blocks) (restarted (record { blocks = t; heads = h }) arrival top .heads) top All
+      × Steady NONE t (restarted (record { blocks = t; heads = h }) arrival top .blocks)
+  unfolding restarted rebuilt rebuildHeads
+  restart-done =
+      let n = slotsOf (t .sequences) in
+      let w : Tables = inOrder (rebuildAt arrival top) n start in
+      let p = all-upto arrival top t start begins n in
+      let f = p .good .frame in
+      let full : Good (w .blocks) (w .heads) top All = record {
+        frame = record {
+          counts = f .counts;
+          voids = f .voids;
+          roomy = f .roomy;
+          blanks = f .blanks;
+          tips = f .tips;
+          apart = f .apart;
+          covered = λ i _ o a z. f .covered i (let l = holds-lt (w .blocks) i o in let e = p .sizes in let k = kids-slots t (b .shape) in omega arith) o a z;
+          chained = f .chained;
+        };
+        anchored = p .good .anchored;
+      } in (
+        recounted-good (w .blocks) (w .heads) top All full (few-kids (w .blocks) (w .heads) top (full .frame)),
+        steady-trans NONE t (w .blocks) (recounted (w .blocks)) (p .steady) (recounted-steady (w .blocks)),
+      )

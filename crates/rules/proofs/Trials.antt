@@ -1,0 +1,148 @@
+-- Lists of calls computed whole: the trial that 01 gives ("One trial whole"), and lists that a wrong rule gets wrong.
+use mathlib.Core.Path.{_≡_, refl}
+use mathlib.Core.List.{List, [], _∷_, map}
+use mathlib.Core.Option.{some}
+use Prim.Native.Nat.{ℕ}
+use lib.ListN.{replicate}
+use Rattle.rules.specs.Common.{lowest, better, best, countBelow, allBelow, inOrder}
+use Rattle.rules.specs.Hashes.{hashLength, bytesFrom, hashAt, putHash, sameHash, hashLess}
+use Rattle.rules.specs.Records.{NONE, slotsOf, occupied, used, active, isConnected, stored, withStatus, putBlock, putHead}
+use Rattle.rules.specs.BlockTable.{isBlock, find, nextFree, findParent, childOf, children, childless, reaches, inSubtree, markSubtree, adjusted, adjustCounts, setOccupied, setOnActiveChain, setStatus, delete, insertAt, resolveParent, adjust}
+use Rattle.rules.specs.Anchor.{anchorFrom, locateAnchor}
+use Rattle.rules.specs.Caches.{waitsAt, knowing, missingPart, keep, recompute, slotOfHead, refreshHead, recomputeUsed, recomputeAll}
+use Rattle.rules.specs.Eviction.{blockBefore, mayGo, victim, evictFrom, evict, evictOne}
+use Rattle.rules.specs.Admission.{firstEmpty, seatHead, makeRoom, insertHead, moveUp, fork, placeHead, misses, late, joined, link, linkLate, recomputeMissed, linkTails, recomputeMissing, resolveTails, admitted, outgrown, refreshOutgrown, refreshTails}
+use Rattle.rules.specs.Promotion.{activate, promoted}
+use Rattle.rules.specs.Removal.{recount, recountAll, listed, headFreed, takesOver, heir, dropHead, dropHeads, blocksDeleted, freeAll, removed}
+use Rattle.rules.specs.Rebuild.{emptyBlocks, emptyHeads, rebuildAt, rebuildHeads, rebuilt, restarted}
+use Rattle.rules.specs.Timer.{due, mayAsk, asksBefore, chosen, claimed, askAt, recovery, markRequested}
+use Rattle.rules.specs.Answers.{Answer, refused, done, slot, freed, request}
+use Rattle.rules.specs.Calls.{Call, admitCall, promoteCall, removeCall, timerCall, restartCall, blocksFit, headsFit, shaped, freshState, admitAt, admit, isNext, promote, holdsActive, remove, asked, timer, restart, step, run}
+use Rattle.rules.specs.Promises.{Made, made}
+
+-- 32 bytes alike
+abbrev hash : ℕ → List ℕ
+hash byte = replicate hashLength byte
+
+abbrev admits : ℕ → ℕ → ℕ → Call
+admits sequence own previous = admitCall sequence (hash own) (hash previous) 1
+
+-- the answers of a list, and the blocks and heads that it leaves
+record Trial : Type 0 where
+  answers : List Answer
+  sequences : List ℕ
+  parents : List ℕ
+  counts : List ℕ
+  flags : List ℕ
+  tips : List ℕ
+  anchors : List ℕ
+  connected : List ℕ
+
+unfoldable trial : ℕ → ℕ → List Call → Trial
+trial n m calls =
+    let t = run (freshState n m) calls .tables in
+    record {
+      answers = map (λ (m : Made). m .answer) (made (freshState n m) calls);
+      sequences = t .blocks .sequences;
+      parents = t .blocks .parents;
+      counts = t .blocks .counts;
+      flags = t .blocks .flags;
+      tips = t .heads .tips;
+      anchors = t .heads .tails;
+      connected = t .heads .connected;
+    }
+
+-- what a list of calls on fresh tables of n and m gives, beside what 01 says that it gives
+record Row : Type 0 where
+  given : Trial
+  said : Trial
+
+-- ---- the lists
+
+-- 01's own
+unfoldable whole : Row
+whole = record {
+  given = trial 4 2 (admits 5 10 9 ∷ admits 6 11 10 ∷ admits 6 12 10 ∷ timerCall 10 (some 5) ∷ promoteCall 0 ∷ admits 6 11 10 ∷ admits 7 13 14 ∷ []);
+  said = record {
+    answers = slot 0 ∷ slot 1 ∷ slot 2 ∷ request 0 4 (hash 9) ∷ done ∷ refused 6 ∷ slot 3 ∷ [];
+    sequences = 5 ∷ NONE ∷ 6 ∷ 7 ∷ [];
+    parents = NONE ∷ NONE ∷ 0 ∷ NONE ∷ [];
+    counts = 1 ∷ 0 ∷ 1 ∷ 1 ∷ [];
+    flags = 5 ∷ 0 ∷ 0 ∷ 0 ∷ [];
+    tips = 3 ∷ 2 ∷ [];
+    anchors = 3 ∷ 0 ∷ [];
+    connected = 0 ∷ 1 ∷ [];
+  };
+}
+
+-- its second eviction takes the active block's count to 0, and the block stays
+unfoldable active-kept : Row
+active-kept = record {
+  given = trial 4 2 (admits 5 10 9 ∷ admits 6 11 10 ∷ admits 6 12 10 ∷ promoteCall 0 ∷ admits 7 13 14 ∷ admits 8 15 16 ∷ []);
+  said = record {
+    answers = slot 0 ∷ slot 1 ∷ slot 2 ∷ done ∷ slot 3 ∷ slot 1 ∷ [];
+    sequences = 5 ∷ 8 ∷ NONE ∷ 7 ∷ [];
+    parents = NONE ∷ NONE ∷ NONE ∷ NONE ∷ [];
+    counts = 0 ∷ 1 ∷ 0 ∷ 1 ∷ [];
+    flags = 5 ∷ 0 ∷ 0 ∷ 0 ∷ [];
+    tips = 3 ∷ 1 ∷ [];
+    anchors = 3 ∷ 1 ∷ [];
+    connected = 0 ∷ 0 ∷ [];
+  };
+}
+
+-- a child before its parent, a second child, and a restart
+unfoldable late-child : Row
+late-child = record {
+  given = trial 4 2 (admits 6 11 10 ∷ admits 5 10 9 ∷ admits 6 12 10 ∷ restartCall 7 ∷ []);
+  said = record {
+    answers = slot 0 ∷ slot 1 ∷ slot 2 ∷ done ∷ [];
+    sequences = 6 ∷ 5 ∷ 6 ∷ NONE ∷ [];
+    parents = 1 ∷ NONE ∷ 1 ∷ NONE ∷ [];
+    counts = 1 ∷ 2 ∷ 1 ∷ 0 ∷ [];
+    flags = 0 ∷ 0 ∷ 0 ∷ 0 ∷ [];
+    tips = 0 ∷ 2 ∷ [];
+    anchors = 1 ∷ 1 ∷ [];
+    connected = 0 ∷ 0 ∷ [];
+  };
+}
+
+-- a subtree goes, and its parent is a head again
+unfoldable subtree-gone : Row
+subtree-gone = record {
+  given = trial 4 2 (admits 5 10 9 ∷ admits 6 11 10 ∷ admits 7 12 11 ∷ admits 7 13 11 ∷ removeCall 1 ∷ []);
+  said = record {
+    answers = slot 0 ∷ slot 1 ∷ slot 2 ∷ slot 3 ∷ freed 3 ∷ [];
+    sequences = 5 ∷ NONE ∷ NONE ∷ NONE ∷ [];
+    parents = NONE ∷ NONE ∷ NONE ∷ NONE ∷ [];
+    counts = 1 ∷ 0 ∷ 0 ∷ 0 ∷ [];
+    flags = 0 ∷ 0 ∷ 0 ∷ 0 ∷ [];
+    tips = 0 ∷ NONE ∷ [];
+    anchors = 0 ∷ NONE ∷ [];
+    connected = 0 ∷ 0 ∷ [];
+  };
+}
+
+-- the first head's missing hash is stale: only the last admission's refresh moves its anchor
+unfoldable refreshed : Row
+refreshed = record {
+  given = trial 6 3 (admits 10 13 14 ∷ admits 8 15 11 ∷ admits 9 15 15 ∷ admits 7 11 15 ∷ admits 9 14 15 ∷ admits 6 15 10 ∷ []);
+  said = record {
+    answers = slot 0 ∷ slot 1 ∷ slot 2 ∷ slot 3 ∷ slot 4 ∷ slot 5 ∷ [];
+    sequences = 10 ∷ 8 ∷ 9 ∷ 7 ∷ 9 ∷ 6 ∷ [];
+    parents = 4 ∷ 3 ∷ 1 ∷ 5 ∷ 1 ∷ NONE ∷ [];
+    counts = 1 ∷ 2 ∷ 1 ∷ 1 ∷ 1 ∷ 1 ∷ [];
+    flags = 0 ∷ 0 ∷ 0 ∷ 0 ∷ 0 ∷ 0 ∷ [];
+    tips = 0 ∷ 2 ∷ NONE ∷ [];
+    anchors = 5 ∷ 5 ∷ NONE ∷ [];
+    connected = 0 ∷ 0 ∷ 0 ∷ [];
+  };
+}
+
+rows : List Row
+rows = whole ∷ active-kept ∷ late-child ∷ subtree-gone ∷ refreshed ∷ []
+
+-- each list gives what is said
+as-said : map (λ (r : Row). r .given) rows ≡ map (λ (r : Row). r .said) rows
+unfolding rows trial whole active-kept late-child subtree-gone refreshed made step run freshState emptyBlocks emptyHeads lowest better best countBelow allBelow inOrder bytesFrom hashAt putHash sameHash hashLess slotsOf occupied used active isConnected stored withStatus putBlock putHead isBlock find nextFree findParent childOf children childless reaches inSubtree markSubtree adjusted adjustCounts setOccupied setOnActiveChain setStatus delete insertAt resolveParent adjust anchorFrom locateAnchor waitsAt knowing missingPart keep recompute slotOfHead refreshHead recomputeUsed recomputeAll blockBefore mayGo victim evictFrom evict evictOne firstEmpty seatHead makeRoom insertHead moveUp fork placeHead misses late joined link linkLate recomputeMissed linkTails recomputeMissing resolveTails admitted outgrown refreshOutgrown refreshTails activate promoted recount recountAll listed headFreed takesOver heir dropHead dropHeads blocksDeleted freeAll removed rebuildAt rebuildHeads rebuilt restarted due mayAsk asksBefore chosen claimed askAt recovery markRequested blocksFit headsFit shaped admitAt admit isNext promote holdsActive remove asked timer restart
+as-said = refl

@@ -10,3 +10,4 @@ pub mod Rank
 pub mod Marked
 pub mod Kept
 pub mod Demand3
+pub mod Trials

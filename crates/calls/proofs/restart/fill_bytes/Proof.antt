@@ -1,0 +1,52 @@
+use Rattle.calls.proofs.restart.fill_bytes.Statement.{statement}
+use Rattle.calls.proofs.restart.fill_bytes.Tie as tie
+use Rattle.calls.proofs.restart.fill_bytes.Reads as reads
+use Rattle.calls.proofs.restart.fill_bytes.Lts as lts
+
+abbrev Inv-loop : tie.InvT-loop
+Inv-loop cells₀ value i₀ cells i = ?
+
+abbrev μ-loop : tie.MeasureT-loop
+μ-loop cells₀ value i₀ cells i = ?
+
+-- src/restart.rt:19:5
+loop-holds : tie.Need-loop-holds Inv-loop μ-loop
+loop-holds c = ?
+
+-- src/restart.rt:20:9
+slice-write-cells : tie.Need-slice-write-cells Inv-loop μ-loop
+slice-write-cells c = ?
+
+-- src/restart.rt:21:9
+add-i : tie.Need-add-i Inv-loop μ-loop
+add-i c = ?
+
+-- src/restart.rt:19:5
+loop-less : tie.Need-loop-less Inv-loop μ-loop
+loop-less c = ?
+
+-- src/restart.rt:19:5
+loop-again : tie.Need-loop-again Inv-loop μ-loop
+loop-again c = ?
+
+-- src/restart.rt:15:1
+same-length : tie.Need-same-length Inv-loop μ-loop
+same-length c = ?
+
+-- src/restart.rt:15:1
+returns : tie.Need-returns Inv-loop μ-loop
+returns c = ?
+
+pub fill-bytes-spec : {M : Type 1} → statement M
+fill-bytes-spec =
+    tie.close
+    (tie.spec
+    Inv-loop
+    μ-loop
+    loop-holds
+    slice-write-cells
+    add-i
+    loop-less
+    loop-again
+    same-length
+    returns)

@@ -183,9 +183,9 @@ pub record Sound (s : State) : Type 0 where
   pub anchored : (k : ℕ) → InUse s k → Anchored s k
   -- an empty head is the fixed record
   pub emptyHeads : (k : ℕ) → ¬ (InUse s k) → headAt (s .tables .heads) k ≡ emptyHead
-  -- a full head table has a victim
-  pub victims : ((k : ℕ) → k < headsIn (s .tables) → InUse s k)
-      → victim (s .tables .blocks .hashes) (s .tables .blocks .sequences) (s .tables .heads .tips) (s .activeHead) ≢ none
+  -- a full head table has a victim, also after further blocks have been written
+  pub victims : (hashes sequences : List ℕ) → ((k : ℕ) → k < headsIn (s .tables) → InUse s k × (getD sequences (tip s k) NONE ≢ NONE))
+      → victim hashes sequences (s .tables .heads .tips) (s .activeHead) ≢ none
   -- a block has no more children than there are heads, and one more
   pub few : (i : ℕ) → Occupied s i → children s i ≤ suc (headsIn (s .tables))
 

@@ -1,6 +1,6 @@
 -- Lists of calls computed whole: the trial that 01 gives ("One trial whole"), and lists that a wrong rule gets wrong.
 use mathlib.Core.Path.{_≡_, refl}
-use mathlib.Core.List.{List, [], _∷_, map}
+use mathlib.Core.List.{List, [], _∷_, _++_, map}
 use mathlib.Core.Option.{some}
 use Prim.Native.Nat.{ℕ}
 use lib.ListN.{replicate}
@@ -17,7 +17,7 @@ use Rattle.rules.specs.Removal.{recount, recountAll, listed, headFreed, 
 use Rattle.rules.specs.Rebuild.{emptyBlocks, emptyHeads, rebuildAt, rebuildHeads, rebuilt, restarted}
 use Rattle.rules.specs.Timer.{due, mayAsk, asksBefore, chosen, claimed, askAt, recovery, markRequested}
 use Rattle.rules.specs.Answers.{Answer, refused, done, slot, freed, request}
-use Rattle.rules.specs.Calls.{Call, admitCall, promoteCall, removeCall, timerCall, restartCall, blocksFit, headsFit, shaped, freshState, admitAt, admit, isNext, promote, holdsActive, remove, asked, timer, restart, step, run}
+use Rattle.rules.specs.Calls.{State, Call, admitCall, promoteCall, removeCall, timerCall, restartCall, blocksFit, headsFit, shaped, freshState, admitAt, admit, isNext, promote, holdsActive, remove, asked, timer, restart, step, run}
 use Rattle.rules.specs.Promises.{Made, made}
 
 -- 32 bytes alike
@@ -38,11 +38,11 @@ record Trial : Type 0 where
   anchors : List ℕ
   connected : List ℕ
 
-unfoldable trial : ℕ → ℕ → List Call → Trial
-trial n m calls =
-    let t = run (freshState n m) calls .tables in
+unfoldable trial : State → List Call → Trial
+trial s calls =
+    let t = run s calls .tables in
     record {
-      answers = map (λ (m : Made). m .answer) (made (freshState n m) calls);
+      answers = map (λ (m : Made). m .answer) (made s calls);
       sequences = t .blocks .sequences;
       parents = t .blocks .parents;
       counts = t .blocks .counts;
@@ -52,7 +52,7 @@ trial n m calls =
       connected = t .heads .connected;
     }
 
--- what a list of calls on fresh tables of n and m gives, beside what 01 says that it gives
+-- what a list of calls gives, beside what 01 says that it gives
 record Row : Type 0 where
   given : Trial
   said : Trial
@@ -62,7 +62,7 @@ record Row : Type 0 where
 -- 01's own
 unfoldable whole : Row
 whole = record {
-  given = trial 4 2 (admits 5 10 9 ∷ admits 6 11 10 ∷ admits 6 12 10 ∷ timerCall 10 (some 5) ∷ promoteCall 0 ∷ admits 6 11 10 ∷ admits 7 13 14 ∷ []);
+  given = trial (freshState 4 2) (admits 5 10 9 ∷ admits 6 11 10 ∷ admits 6 12 10 ∷ timerCall 10 (some 5) ∷ promoteCall 0 ∷ admits 6 11 10 ∷ admits 7 13 14 ∷ []);
   said = record {
     answers = slot 0 ∷ slot 1 ∷ slot 2 ∷ request 0 4 (hash 9) ∷ done ∷ refused 6 ∷ slot 3 ∷ [];
     sequences = 5 ∷ NONE ∷ 6 ∷ 7 ∷ [];
@@ -78,7 +78,7 @@ whole = record {
 -- its second eviction takes the active block's count to 0, and the block stays
 unfoldable active-kept : Row
 active-kept = record {
-  given = trial 4 2 (admits 5 10 9 ∷ admits 6 11 10 ∷ admits 6 12 10 ∷ promoteCall 0 ∷ admits 7 13 14 ∷ admits 8 15 16 ∷ []);
+  given = trial (freshState 4 2) (admits 5 10 9 ∷ admits 6 11 10 ∷ admits 6 12 10 ∷ promoteCall 0 ∷ admits 7 13 14 ∷ admits 8 15 16 ∷ []);
   said = record {
     answers = slot 0 ∷ slot 1 ∷ slot 2 ∷ done ∷ slot 3 ∷ slot 1 ∷ [];
     sequences = 5 ∷ 8 ∷ NONE ∷ 7 ∷ [];
@@ -94,7 +94,7 @@ active-kept = record {
 -- a child before its parent, a second child, and a restart
 unfoldable late-child : Row
 late-child = record {
-  given = trial 4 2 (admits 6 11 10 ∷ admits 5 10 9 ∷ admits 6 12 10 ∷ restartCall 7 ∷ []);
+  given = trial (freshState 4 2) (admits 6 11 10 ∷ admits 5 10 9 ∷ admits 6 12 10 ∷ restartCall 7 ∷ []);
   said = record {
     answers = slot 0 ∷ slot 1 ∷ slot 2 ∷ done ∷ [];
     sequences = 6 ∷ 5 ∷ 6 ∷ NONE ∷ [];
@@ -110,7 +110,7 @@ late-child = record {
 -- a subtree goes, and its parent is a head again
 unfoldable subtree-gone : Row
 subtree-gone = record {
-  given = trial 4 2 (admits 5 10 9 ∷ admits 6 11 10 ∷ admits 7 12 11 ∷ admits 7 13 11 ∷ removeCall 1 ∷ []);
+  given = trial (freshState 4 2) (admits 5 10 9 ∷ admits 6 11 10 ∷ admits 7 12 11 ∷ admits 7 13 11 ∷ removeCall 1 ∷ []);
   said = record {
     answers = slot 0 ∷ slot 1 ∷ slot 2 ∷ slot 3 ∷ freed 3 ∷ [];
     sequences = 5 ∷ NONE ∷ NONE ∷ NONE ∷ [];
@@ -126,7 +126,7 @@ subtree-gone = record {
 -- the first head's missing hash is stale: only the last admission's refresh moves its anchor
 unfoldable refreshed : Row
 refreshed = record {
-  given = trial 6 3 (admits 10 13 14 ∷ admits 8 15 11 ∷ admits 9 15 15 ∷ admits 7 11 15 ∷ admits 9 14 15 ∷ admits 6 15 10 ∷ []);
+  given = trial (freshState 6 3) (admits 10 13 14 ∷ admits 8 15 11 ∷ admits 9 15 15 ∷ admits 7 11 15 ∷ admits 9 14 15 ∷ admits 6 15 10 ∷ []);
   said = record {
     answers = slot 0 ∷ slot 1 ∷ slot 2 ∷ slot 3 ∷ slot 4 ∷ slot 5 ∷ [];
     sequences = 10 ∷ 8 ∷ 9 ∷ 7 ∷ 9 ∷ 6 ∷ [];
@@ -139,10 +139,42 @@ refreshed = record {
   };
 }
 
+-- blocks as they are loaded, no count set: a shared block, its two children, and a block apart
+abbrev loaded : State
+loaded = record {
+  tables = record {
+    blocks = record {
+      hashes = hash 10 ++ hash 11 ++ hash 12 ++ hash 13;
+      parents = NONE ∷ 0 ∷ 0 ∷ NONE ∷ [];
+      sequences = 5 ∷ 6 ∷ 6 ∷ 7 ∷ [];
+      counts = replicate 4 0;
+      flags = replicate 4 0;
+    };
+    heads = emptyHeads 2;
+  };
+  activeHead = NONE;
+}
+
+-- full, forked and freshly loaded together: the shared block stays
+unfoldable mended : Row
+mended = record {
+  given = trial loaded (restartCall 7 ∷ []);
+  said = record {
+    answers = done ∷ [];
+    sequences = 5 ∷ NONE ∷ 6 ∷ 7 ∷ [];
+    parents = NONE ∷ NONE ∷ 0 ∷ NONE ∷ [];
+    counts = 1 ∷ 0 ∷ 1 ∷ 1 ∷ [];
+    flags = 0 ∷ 0 ∷ 0 ∷ 0 ∷ [];
+    tips = 3 ∷ 2 ∷ [];
+    anchors = 3 ∷ 0 ∷ [];
+    connected = 0 ∷ 0 ∷ [];
+  };
+}
+
 rows : List Row
-rows = whole ∷ active-kept ∷ late-child ∷ subtree-gone ∷ refreshed ∷ []
+rows = whole ∷ active-kept ∷ late-child ∷ subtree-gone ∷ refreshed ∷ mended ∷ []
 
 -- each list gives what is said
 as-said : map (λ (r : Row). r .given) rows ≡ map (λ (r : Row). r .said) rows
-unfolding rows trial whole active-kept late-child subtree-gone refreshed made step run freshState emptyBlocks emptyHeads lowest better best countBelow allBelow inOrder bytesFrom hashAt putHash sameHash hashLess slotsOf occupied used active isConnected stored withStatus putBlock putHead isBlock find nextFree findParent childOf children childless reaches inSubtree markSubtree adjusted adjustCounts setOccupied setOnActiveChain setStatus delete insertAt resolveParent adjust anchorFrom locateAnchor waitsAt knowing missingPart keep recompute slotOfHead refreshHead recomputeUsed recomputeAll blockBefore mayGo victim evictFrom evict evictOne firstEmpty seatHead makeRoom insertHead moveUp fork placeHead misses late joined link linkLate recomputeMissed linkTails recomputeMissing resolveTails admitted outgrown refreshOutgrown refreshTails activate promoted recount recountAll listed headFreed takesOver heir dropHead dropHeads blocksDeleted freeAll removed rebuildAt rebuildHeads rebuilt restarted due mayAsk asksBefore chosen claimed askAt recovery markRequested blocksFit headsFit shaped admitAt admit isNext promote holdsActive remove asked timer restart
+unfolding rows trial whole active-kept late-child subtree-gone refreshed mended made step run freshState emptyBlocks emptyHeads lowest better best countBelow allBelow inOrder bytesFrom hashAt putHash sameHash hashLess slotsOf occupied used active isConnected stored withStatus putBlock putHead isBlock find nextFree findParent childOf children childless reaches inSubtree markSubtree adjusted adjustCounts setOccupied setOnActiveChain setStatus delete insertAt resolveParent adjust anchorFrom locateAnchor waitsAt knowing missingPart keep recompute slotOfHead refreshHead recomputeUsed recomputeAll blockBefore mayGo victim evictFrom evict evictOne firstEmpty seatHead makeRoom insertHead moveUp fork placeHead misses late joined link linkLate recomputeMissed linkTails recomputeMissing resolveTails admitted outgrown refreshOutgrown refreshTails activate promoted recount recountAll listed headFreed takesOver heir dropHead dropHeads blocksDeleted freeAll removed rebuildAt rebuildHeads rebuilt restarted due mayAsk asksBefore chosen claimed askAt recovery markRequested blocksFit headsFit shaped admitAt admit isNext promote holdsActive remove asked timer restart
 as-said = refl

@@ -34,9 +34,6 @@ Occupied s i = sequence s i ≢ NONE
 abbrev pub Active : State → ℕ → Type 0
 Active s i = getD (s .tables .blocks .flags) i 0 % 2 ≡ 1
 
-abbrev pub Not : Type 0 → Type 0
-Not A = A → ⊥
-
 abbrev pub tip : State → ℕ → ℕ
 tip s k = getD (s .tables .heads .tips) k NONE
 
@@ -78,7 +75,7 @@ IsHead s i = (k : ℕ) × InUse s k × (tip s k ≡ i)
 
 -- the visits of a block's parent walk: the block, then those of its parent, if that is a block
 pub data Walk (s : State) : ℕ → List ℕ → Type 0 where
-  ends : (i : ℕ) → Occupied s i → Not (Occupied s (parent s i)) → Walk s i (i ∷ [])
+  ends : (i : ℕ) → Occupied s i → ¬ (Occupied s (parent s i)) → Walk s i (i ∷ [])
   goes : (i : ℕ) (visits : List ℕ) → Occupied s i → Walk s (parent s i) visits → Walk s i (i ∷ visits)
 
 pub data Among (a : ℕ) : List ℕ → Type 0 where
@@ -90,7 +87,7 @@ MeetsActive s visits = (a : ℕ) × Among a visits × Active s a
 
 pub data FirstActive (s : State) (a : ℕ) : List ℕ → Type 0 where
   here : (visits : List ℕ) → Active s a → FirstActive s a (a ∷ visits)
-  after : (i : ℕ) (visits : List ℕ) → Not (Active s i) → FirstActive s a visits → FirstActive s a (i ∷ visits)
+  after : (i : ℕ) (visits : List ℕ) → ¬ (Active s i) → FirstActive s a visits → FirstActive s a (i ∷ visits)
 
 pub data Last (a : ℕ) : List ℕ → Type 0 where
   only : Last a (a ∷ [])
@@ -103,7 +100,7 @@ pub record Anchored (s : State) (k : ℕ) : Type 0 where
   pub few : length visits ≤ blocksIn (s .tables)
   pub connected : Connected s k ↔ MeetsActive s visits
   pub atFirst : MeetsActive s visits → FirstActive s (anchor s k) visits
-  pub orLast : Not (MeetsActive s visits) → Last (anchor s k) visits
+  pub orLast : ¬ (MeetsActive s visits) → Last (anchor s k) visits
 
 -- the line from the record down: from an active block on it to its parent, where that is active too
 pub data OnLine (s : State) : ℕ → Type 0 where
@@ -171,24 +168,24 @@ pub record Tree (s : State) : Type 0 where
   -- no two occupied blocks share sequence and hash
   pub names : (i j : ℕ) → Occupied s i → Occupied s j → name s i ≡ name s j → i ≡ j
   -- an empty slot is the fixed record
-  pub emptySlots : (i : ℕ) → Not (Occupied s i) → blockAt (s .tables .blocks) i ≡ emptyBlock
+  pub emptySlots : (i : ℕ) → ¬ (Occupied s i) → blockAt (s .tables .blocks) i ≡ emptyBlock
 
 -- of a state
 pub record Sound (s : State) : Type 0 where
   pub tree : Tree s
   -- each occupied block off the active chain counts max(1, its children) and is a head exactly when it has no child
-  pub counts : (i : ℕ) → Occupied s i → Not (Active s i) → count s i ≡ max 1 (children s i)
-  pub heads : (i : ℕ) → Occupied s i → Not (Active s i) → IsHead s i ↔ (children s i ≡ 0)
+  pub counts : (i : ℕ) → Occupied s i → ¬ (Active s i) → count s i ≡ max 1 (children s i)
+  pub heads : (i : ℕ) → Occupied s i → ¬ (Active s i) → IsHead s i ↔ (children s i ≡ 0)
   -- all tips in use are occupied, childless and different
   pub tips : (k : ℕ) → InUse s k → Occupied s (tip s k) × (children s (tip s k) ≡ 0)
   pub different : (j k : ℕ) → InUse s j → InUse s k → tip s j ≡ tip s k → j ≡ k
   -- each head is connected exactly when its walk meets an active block, and anchored there or at the walk's last block
   pub anchored : (k : ℕ) → InUse s k → Anchored s k
   -- an empty head is the fixed record
-  pub emptyHeads : (k : ℕ) → Not (InUse s k) → headAt (s .tables .heads) k ≡ emptyHead
-  -- a full head table has a victim
-  pub victims : ((k : ℕ) → k < headsIn (s .tables) → InUse s k)
-      → victim (s .tables .blocks .hashes) (s .tables .blocks .sequences) (s .tables .heads .tips) (s .activeHead) ≢ none
+  pub emptyHeads : (k : ℕ) → ¬ (InUse s k) → headAt (s .tables .heads) k ≡ emptyHead
+  -- a full head table has a victim, also after further blocks have been written
+  pub victims : (hashes sequences : List ℕ) → ((k : ℕ) → k < headsIn (s .tables) → InUse s k × (getD sequences (tip s k) NONE ≢ NONE))
+      → victim hashes sequences (s .tables .heads .tips) (s .activeHead) ≢ none
   -- a block has no more children than there are heads, and one more
   pub few : (i : ℕ) → Occupied s i → children s i ≤ suc (headsIn (s .tables))
 

@@ -9,7 +9,7 @@ use borrow.Author.Tests.{eqb-true, eqb-false}
 use Rattle.rules.specs.Records.{bit0}
 use Rattle.rules.specs.Anchor.{connection, tail}
 use Rattle.rules.specs.Calls.{State, blocksIn}
-use Rattle.rules.specs.Promises.{Not, tip, anchor, headAt, first, further, MeetsActive, FirstActive, here, after, Anchored}
+use Rattle.rules.specs.Promises.{tip, anchor, headAt, first, further, MeetsActive, FirstActive, here, after, Anchored}
 use Rattle.rules.proofs.Splits.{split}
 use Rattle.rules.proofs.Kept.Table.{holds, Shape, Linked}
 use Rattle.rules.proofs.Kept.Ends.{Ends, depth, depth-lt}
@@ -64,5 +64,5 @@ module _ (s : State) (k : ℕ) (sh : Shape (blocksOf s)) (l : Linked (blocksOf s
   anchored-ends a = split flag
       (λ b. rw (kept-on b) (walk-first s sh l (anchor s k) (tip s k) (a .visits) (a .walk) (a .atFirst (a .connected .0 (eqb-true (getD (s .tables .heads .connected) k 0 % 2) 1 b)))))
       (λ b.
-      let no : Not (MeetsActive s (a .visits)) = λ c. eqb-false (getD (s .tables .heads .connected) k 0 % 2) 1 b (a .connected .1 c) in
+      let no : ¬ (MeetsActive s (a .visits)) = λ c. eqb-false (getD (s .tables .heads .connected) k 0 % 2) 1 b (a .connected .1 c) in
       rw (kept-off b) (walk-last s sh l (anchor s k) (tip s k) (a .visits) (a .walk) (λ j m x. no (j, m, x)) (a .orLast no)))

@@ -34,10 +34,6 @@ module _ (t : Blocks) (h : Heads) (top : ℕ) (C : ℕ → Type 0) (g : Frame t 
   }
 
   module _ (u : Heads) (k : ℕ) where
-    turn-tip : Turn t k h u → (s : ℕ) → tipOf u s ≡ tipOf h s
-    turn-tip (inl q) s = rw q refl
-    turn-tip (inr r) s = same? s k (λ q. rw q (r .seat .here (use-lt h k (r .busy)))) (λ ne. seat-tip h u k (tipOf h k) (r .seat) s ne)
-
     turn-use : Turn t k h u → (s : ℕ) → inUse u s ≡ inUse h s
     turn-use (inl q) s = rw q refl
     turn-use (inr r) s = same? s k

@@ -9,7 +9,7 @@ use borrow.Author.Tests.{eqb-true, eq-eqb, ne-eqb}
 use Rattle.rules.specs.Records.{NONE, Blocks, Heads, active}
 use Rattle.rules.specs.Anchor.{Anchor, connection, tail}
 use Rattle.rules.specs.Calls.{State}
-use Rattle.rules.specs.Promises.{parent, Occupied, Active, Not, Walk, ends, goes, Among, first, further, FirstActive, here, after, Last, only, behind}
+use Rattle.rules.specs.Promises.{parent, Occupied, Active, Walk, ends, goes, Among, first, further, FirstActive, here, after, Last, only, behind}
 use Rattle.rules.proofs.Splits.{same?, true-not-false}
 use Rattle.rules.proofs.Kept.Table.{parentOf, holds, onChain, Shape, Linked, holds-ne, ne-holds, holds-real, none-empty, empty-eq, parent-there}
 use Rattle.rules.proofs.Kept.Ends.{Ends, at-active, at-root, goes-on, depth, depth-falls}
@@ -29,18 +29,18 @@ module _ (s : State) (i : ℕ) where
   unfolding active
   on-active e = eqb-true (getD (s .tables .blocks .flags) i 0 % 2) 1 e
 
-  pub idle-off : Not (Active s i) → onChain (blocksOf s) i ≡ false
+  pub idle-off : ¬ (Active s i) → onChain (blocksOf s) i ≡ false
   unfolding active
   idle-off n = ne-eqb (getD (s .tables .blocks .flags) i 0 % 2) 1 n
 
-  pub off-idle : onChain (blocksOf s) i ≡ false → Not (Active s i)
+  pub off-idle : onChain (blocksOf s) i ≡ false → ¬ (Active s i)
   off-idle e a = true-not-false {b = onChain (blocksOf s) i} (active-on a) e
 
 module _ (s : State) (sh : Shape (blocksOf s)) (l : Linked (blocksOf s)) where
   abbrev t : Blocks
   t = blocksOf s
 
-  no-parent : (i : ℕ) → parentOf t i ≡ NONE → Not (Occupied s (parent s i))
+  no-parent : (i : ℕ) → parentOf t i ≡ NONE → ¬ (Occupied s (parent s i))
   no-parent i e o = o (rw e (empty-eq t NONE (none-empty t sh)))
 
   walk-starts : (i : ℕ) (visits : List ℕ) → Walk s i visits → holds t i ≡ true
@@ -61,20 +61,20 @@ module _ (s : State) (sh : Shape (blocksOf s)) (l : Linked (blocksOf s)) where
   -- what a walk that ends so has met
   unfoldable pub Met : List ℕ → Anchor → Type 0
   Met visits (connection a) = FirstActive s a visits
-  Met visits (tail a) = Last a visits × ((j : ℕ) → Among j visits → Not (Active s j))
+  Met visits (tail a) = Last a visits × ((j : ℕ) → Among j visits → ¬ (Active s j))
 
-  none-in : (i j : ℕ) (visits : List ℕ) → Not (Active s i) → ((k : ℕ) → Among k visits → Not (Active s k)) → Among j (i ∷ visits) → Not (Active s j)
+  none-in : (i j : ℕ) (visits : List ℕ) → ¬ (Active s i) → ((k : ℕ) → Among k visits → ¬ (Active s k)) → Among j (i ∷ visits) → ¬ (Active s j)
   none-in i j visits n rest (first v) = n
   none-in i j visits n rest (further k v m) = rest j m
 
-  nothing : (j : ℕ) → Among j [] → Not (Active s j)
+  nothing : (j : ℕ) → Among j [] → ¬ (Active s j)
   nothing j m = go [] refl m
     where
-      go : (v : List ℕ) → length v ≡ 0 → Among j v → Not (Active s j)
+      go : (v : List ℕ) → length v ≡ 0 → Among j v → ¬ (Active s j)
       go v e (first w) = absurd (omega arith)
       go v e (further k w n) = absurd (omega arith)
 
-  met-on : (i : ℕ) (visits : List ℕ) (b : Anchor) → Not (Active s i) → Met visits b → Met (i ∷ visits) b
+  met-on : (i : ℕ) (visits : List ℕ) (b : Anchor) → ¬ (Active s i) → Met visits b → Met (i ∷ visits) b
   unfolding Met
   met-on i visits (connection a) n m = after i visits n m
   met-on i visits (tail a) n m = (behind i visits (m .0), λ j. none-in i j visits n (m .1))
@@ -101,7 +101,7 @@ module _ (s : State) (sh : Shape (blocksOf s)) (l : Linked (blocksOf s)) where
   walk-first a i visits (goes j rest o w) (after k v x m) =
       goes-on j {a = connection a} (ne-holds t j o) (idle-off s j x) (holds-real t (parentOf t j) sh (walk-starts (parentOf t j) rest w)) (walk-first a (parentOf t j) rest w m)
 
-  pub walk-last : (a i : ℕ) (visits : List ℕ) → Walk s i visits → ((j : ℕ) → Among j visits → Not (Active s j)) → Last a visits → Ends t i (tail a)
+  pub walk-last : (a i : ℕ) (visits : List ℕ) → Walk s i visits → ((j : ℕ) → Among j visits → ¬ (Active s j)) → Last a visits → Ends t i (tail a)
   walk-last a i visits (ends j o n) none only =
       at-root j (ne-holds t j o) (idle-off s j (none j (first []))) (same? (parentOf t j) NONE (λ e. e) (λ ne. absurd (n (holds-ne t (parentOf t j) (parent-there t j l (ne-holds t j o) ne .0)))))
   walk-last a i visits (ends j o n) none (behind k v m) = absurd (stop [] refl m)

@@ -1,8 +1,10 @@
 pub mod Splits
 pub mod Cells
 pub mod Search
-pub mod Best
-pub mod Rank
 pub mod Hashes
+pub mod Orders
+pub mod Best
+pub mod Timer
+pub mod Rank
 pub mod Walks
 pub mod Marked

@@ -6,6 +6,7 @@ use Prim.Native.Nat.{ℕ, zero, suc, _+_, _<_}
 use native.Mathlib.Numerals.{add-one}
 use native.Mathlib.Omega.{arith}
 use Rattle.rules.specs.Common.{if_then_else_, better, best}
+use Rattle.rules.proofs.Orders.{Strict}
 use Rattle.rules.proofs.Splits.{split, same?, option?, true-not-false, some-not-none}
 
 module _ (test : ℕ → Bool) (before : ℕ → ℕ → Bool) where
@@ -90,29 +91,28 @@ module _ (test : ℕ → Bool) (before : ℕ → ℕ → Bool) where
 
   -- ---- in a strict order no number that passes goes before the one found
 
-  module _ (irreflexive : (i : ℕ) → before i i ≡ false) (transitive : (i j k : ℕ) → before i j ≡ true → before j k ≡ true → before i k ≡ true) where
+  module _ (strict : Strict before) where
     pub best-first : (n i j : ℕ) → best test before n ≡ some i → j < n → test j ≡ true → before j i ≡ false
     best-first zero i j e l t = absurd (omega arith)
     best-first (suc n) i j e l t = cases n i e
         (λ u p q. same? j n
-        (λ r. rw (r, p) (irreflexive n))
+        (λ r. rw (r, p) (strict .irreflexive n))
         (λ ne. true-not-false {b = test j} t (best-misses n j q (omega arith))))
         (λ u p b q a. same? j n
-        (λ r. rw (r, p) (irreflexive n))
+        (λ r. rw (r, p) (strict .irreflexive n))
         (λ ne. split (before j n)
-        (λ g. true-not-false {b = before j b} (transitive j n b g a) (best-first n b j q (omega arith) t))
+        (λ g. true-not-false {b = before j b} (strict .transitive j n b g a) (best-first n b j q (omega arith) t))
         (λ g. rw p g)))
         (λ q a. same? j n
         (λ r. rw r (a (rw (← r) t)))
         (λ ne. best-first n i j q (omega arith) t))
 
-    -- where only ties are not ordered, the number found goes before each lower one that passes: of equals it is the lowest
-    pub best-lowest : ((i j k : ℕ) → before i j ≡ false → before j k ≡ false → before i k ≡ false)
-        → (n i j : ℕ) → best test before n ≡ some i → j < i → test j ≡ true → before i j ≡ true
-    best-lowest ties zero i j e l t = some-not-none {o = best test before 0} {i = i} e best-none
-    best-lowest ties (suc n) i j e l t = cases n i e
+    -- it goes before each lower one that passes: of equals it is the lowest
+    pub best-lowest : (n i j : ℕ) → best test before n ≡ some i → j < i → test j ≡ true → before i j ≡ true
+    best-lowest zero i j e l t = some-not-none {o = best test before 0} {i = i} e best-none
+    best-lowest (suc n) i j e l t = cases n i e
         (λ u p q. true-not-false {b = test j} t (best-misses n j q (omega arith)))
         (λ u p b q a. split (before n j)
         (λ g. rw p g)
-        (λ g. true-not-false {b = before n b} a (ties n j b g (best-first n b j q (omega arith) t))))
-        (λ q a. best-lowest ties n i j q l t)
+        (λ g. true-not-false {b = before n b} a (strict .ties n j b g (best-first n b j q (omega arith) t))))
+        (λ q a. best-lowest n i j q l t)

@@ -1,12 +1,14 @@
 pub mod Splits
 pub mod Cells
 pub mod Search
-pub mod Best
 pub mod Each
 pub mod Freed
 pub mod Hashes
-pub mod Walks
+pub mod Orders
+pub mod Best
+pub mod Timer
 pub mod Rank
+pub mod Walks
 pub mod Marked
 pub mod Kept
 pub mod Demand3

@@ -36,10 +36,13 @@ loop-less c = omega (arith, c .before .before .before .before .before .before .b
 loop-again : tie.Need-loop-again Inv-loop μ-loop
 loop-again c =
     let u = c .before .before .before .before .before .before .before .before .before .before .before .before .before .before .before .before .before .before .before .before .before .before .rebuild-at in
-    let l = c .before .before .before .before .before .before .before .before .before .before .before .before .before .before .before .before .before .before .before .before .before .before .before .before .before .before .before .before .before .before .before .before .before .before .before .loop in
-    ( omega (arith, c .before .before .before .before .before .before .before .before .before .before .before .before .before .before .before .before .before .before .before .before .before .before .before .before .before .before .before .before .before .before .before .before .before .before .loop-test .taken)
-    , ( (u .kept .0 ∙ l .inv .1 .0 .0, (u .kept .1 .0 ∙ l .inv .1 .0 .1 .0, (u .kept .1 .1 .0 ∙ l .inv .1 .0 .1 .1 .0, (u .kept .1 .1 .1 .0 ∙ l .inv .1 .0 .1 .1 .1 .0, (u .kept .1 .1 .1 .1 .0 ∙ l .inv .1 .0 .1 .1 .1 .1 .0, (u .kept .1 .1 .1 .1 .1 .0 ∙ l .inv .1 .0 .1 .1 .1 .1 .1 .0, (u .kept .1 .1 .1 .1 .1 .1 .0 ∙ l .inv .1 .0 .1 .1 .1 .1 .1 .1 .0, (u .kept .1 .1 .1 .1 .1 .1 .1 .0 ∙ l .inv .1 .0 .1 .1 .1 .1 .1 .1 .1 .0, (u .kept .1 .1 .1 .1 .1 .1 .1 .1 .0 ∙ l .inv .1 .0 .1 .1 .1 .1 .1 .1 .1 .1 .0, (u .kept .1 .1 .1 .1 .1 .1 .1 .1 .1 .0 ∙ l .inv .1 .0 .1 .1 .1 .1 .1 .1 .1 .1 .1 .0, u .kept .1 .1 .1 .1 .1 .1 .1 .1 .1 .1 .0 ∙ l .inv .1 .0 .1 .1 .1 .1 .1 .1 .1 .1 .1 .1))))))))))
-      , u .ensures ∙ rw (l .inv .1 .1, in-order-next)))
+    let l = c .before .before .before .before .before .before .before .before .before .before .before .before .before .before .before .before .before .before .before .before .before .before .before .before .before .before .before .before .before .before .before .before .before .before .before .loop in (
+      omega (arith, c .before .before .before .before .before .before .before .before .before .before .before .before .before .before .before .before .before .before .before .before .before .before .before .before .before .before .before .before .before .before .before .before .before .before .loop-test .taken),
+      (
+        (u .kept .0 ∙ l .inv .1 .0 .0, (u .kept .1 .0 ∙ l .inv .1 .0 .1 .0, (u .kept .1 .1 .0 ∙ l .inv .1 .0 .1 .1 .0, (u .kept .1 .1 .1 .0 ∙ l .inv .1 .0 .1 .1 .1 .0, (u .kept .1 .1 .1 .1 .0 ∙ l .inv .1 .0 .1 .1 .1 .1 .0, (u .kept .1 .1 .1 .1 .1 .0 ∙ l .inv .1 .0 .1 .1 .1 .1 .1 .0, (u .kept .1 .1 .1 .1 .1 .1 .0 ∙ l .inv .1 .0 .1 .1 .1 .1 .1 .1 .0, (u .kept .1 .1 .1 .1 .1 .1 .1 .0 ∙ l .inv .1 .0 .1 .1 .1 .1 .1 .1 .1 .0, (u .kept .1 .1 .1 .1 .1 .1 .1 .1 .0 ∙ l .inv .1 .0 .1 .1 .1 .1 .1 .1 .1 .1 .0, (u .kept .1 .1 .1 .1 .1 .1 .1 .1 .1 .0 ∙ l .inv .1 .0 .1 .1 .1 .1 .1 .1 .1 .1 .1 .0, u .kept .1 .1 .1 .1 .1 .1 .1 .1 .1 .1 .0 ∙ l .inv .1 .0 .1 .1 .1 .1 .1 .1 .1 .1 .1 .1)))))))))),
+        u .ensures ∙ rw (l .inv .1 .1, in-order-next),
+      ),
+    )
 
 same-length : tie.Need-same-length Inv-loop μ-loop
 same-length c = c .before .loop .inv .1 .0 .0

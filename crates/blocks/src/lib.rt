@@ -271,9 +271,9 @@ pub fn adjust_head_ref_count(
     if !is_occupied(sequences, slot) {
         return Counted::Nothing;
     }
-    let count = adjusted_count(byte_at(counts, slot.0), change);
-    put_byte(counts, slot.0, count);
-    Counted::Count(count)
+    let next = adjusted_count(byte_at(counts, slot.0), change);
+    put_byte(counts, slot.0, next);
+    Counted::Count(next)
 }
 
 pub fn set_head_ref_count(sequences: &[u32], counts: &mut [u8], slot: BlockSlot, count: u8) -> bool

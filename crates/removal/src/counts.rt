@@ -31,13 +31,13 @@ fn clear_counts(sequences: &[u32], counts: &mut [u8])
 }
 
 // The block counts for its parent, if that is a slot.
-fn count_child(parents: &[u32], sequences: &[u32], counts: &mut [u8], slot: BlockSlot)
-    ensures { λ _. ⌜ now (counts .exit) ≡ countChild (now (parents .entry)) (now (sequences .entry)) (slot .0) (now (counts .entry)) ⌝ }
+fn count_child(parents: &[u32], sequences: &[u32], counts: &mut [u8], child: BlockSlot)
+    ensures { λ _. ⌜ now (counts .exit) ≡ countChild (now (parents .entry)) (now (sequences .entry)) (child .0) (now (counts .entry)) ⌝ }
 {
-    if !is_occupied(sequences, slot) {
+    if !is_occupied(sequences, child) {
         return;
     }
-    let parent = word_at(parents, slot.0);
+    let parent = word_at(parents, child.0);
     if parent < slots(sequences) {
         adjust_head_ref_count(sequences, counts, BlockSlot(parent), 1);
     }

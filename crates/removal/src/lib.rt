@@ -2,3 +2,5 @@
 pub mod children;
 pub mod counts;
 pub mod deleted;
+pub mod free;
+mod heir;

@@ -15,7 +15,7 @@ is-occupied-requires c κs = search needs
 returns : tie.Need-returns
 unfolding countChild
 returns c =
-    let e : occupied (c .before .before .before .before .before .args .sequences .now) (c .before .before .before .before .before .args .slot .0) ≡ false = sym (c .before .is-occupied .ensures) ∙ not-true (c .before .is-occupied .result) (c .if1 .taken) in
+    let e : occupied (c .before .before .before .before .before .args .sequences .now) (c .before .before .before .before .before .args .child .0) ≡ false = sym (c .before .is-occupied .ensures) ∙ not-true (c .before .is-occupied .result) (c .if1 .taken) in
     rw e
 
 word-at-requires : tie.Need-word-at-requires
@@ -33,15 +33,15 @@ same-length c = search needs
 returns-2 : tie.Need-returns-2
 unfolding countChild
 returns-2 c =
-    let e : occupied (c .before .before .before .before .before .before .before .before .before .before .before .before .args .sequences .now) (c .before .before .before .before .before .before .before .before .before .before .before .before .args .slot .0) ≡ true = sym (c .before .before .before .before .before .before .before .before .is-occupied .ensures) ∙ not-false (c .before .before .before .before .before .before .before .before .is-occupied .result) (c .before .before .before .before .before .before .before .if1 .left) in
-    let l : parentAt (c .before .before .before .before .before .before .before .before .before .before .before .before .args .parents .now) (c .before .before .before .before .before .before .before .before .before .before .before .before .args .slot .0) < slotsOf (c .before .before .before .before .before .before .before .before .before .before .before .before .args .sequences .now) = rw (c .before .before .before .before .before .slots .ensures, c .before .before .before .before .before .before .word-at .ensures) at (c .before .before .before .before .if2 .taken) in
+    let e : occupied (c .before .before .before .before .before .before .before .before .before .before .before .before .args .sequences .now) (c .before .before .before .before .before .before .before .before .before .before .before .before .args .child .0) ≡ true = sym (c .before .before .before .before .before .before .before .before .is-occupied .ensures) ∙ not-false (c .before .before .before .before .before .before .before .before .is-occupied .result) (c .before .before .before .before .before .before .before .if1 .left) in
+    let l : parentAt (c .before .before .before .before .before .before .before .before .before .before .before .before .args .parents .now) (c .before .before .before .before .before .before .before .before .before .before .before .before .args .child .0) < slotsOf (c .before .before .before .before .before .before .before .before .before .before .before .before .args .sequences .now) = rw (c .before .before .before .before .before .slots .ensures, c .before .before .before .before .before .before .word-at .ensures) at (c .before .before .before .before .if2 .taken) in
     c .before .before .adjust-head-ref-count .ensures .1 ∙ rw (e, lt-ltb _ _ l, c .before .before .before .before .before .before .word-at .ensures)
 
 returns-3 : tie.Need-returns-3
 unfolding countChild
 returns-3 c =
-    let e : occupied (c .before .before .before .before .before .before .before .before .args .sequences .now) (c .before .before .before .before .before .before .before .before .args .slot .0) ≡ true = sym (c .before .before .before .before .is-occupied .ensures) ∙ not-false (c .before .before .before .before .is-occupied .result) (c .before .before .before .if1 .left) in
-    let l : slotsOf (c .before .before .before .before .before .before .before .before .args .sequences .now) ≤ parentAt (c .before .before .before .before .before .before .before .before .args .parents .now) (c .before .before .before .before .before .before .before .before .args .slot .0) = rw (c .before .slots .ensures, c .before .before .word-at .ensures) at (c .if2 .left) in
+    let e : occupied (c .before .before .before .before .before .before .before .before .args .sequences .now) (c .before .before .before .before .before .before .before .before .args .child .0) ≡ true = sym (c .before .before .before .before .is-occupied .ensures) ∙ not-false (c .before .before .before .before .is-occupied .result) (c .before .before .before .if1 .left) in
+    let l : slotsOf (c .before .before .before .before .before .before .before .before .args .sequences .now) ≤ parentAt (c .before .before .before .before .before .before .before .before .args .parents .now) (c .before .before .before .before .before .before .before .before .args .child .0) = rw (c .before .slots .ensures, c .before .before .word-at .ensures) at (c .if2 .left) in
     rw (e, le-ltb _ _ l)
 
 pub count-child-spec : {M : Type 1} → statement M

@@ -1,7 +1,8 @@
--- The heads, their caches, the counts.
-use mathlib.Core.Path.{_≡_, _∙_}
-use Rattle.rules.specs.Records.{headsOf, tablesOf}
-use Rattle.rules.specs.Removal.{takesOver, heir, dropHeads, blocksDeleted}
+-- The heads, then the counts.
+use mathlib.Core.Path.{ap, _∙_}
+use Rattle.rules.specs.Records.{Heads, tablesOf}
+use Rattle.rules.specs.Removal.{recounted, takesOver, heir, blocksDeleted}
+use Rattle.removal.specs.After.{headsAfter}
 use borrow.Author.Needs.{needs}
 use Rattle.removal.proofs.deleted.on_blocks_deleted.Statement.{statement}
 use Rattle.removal.proofs.deleted.on_blocks_deleted.Tie as tie
@@ -9,11 +10,8 @@ use Rattle.removal.proofs.deleted.on_blocks_deleted.Tie as tie
 heir-requires : tie.Need-heir-requires
 heir-requires c κs = search needs
 
-drop-heads-requires : tie.Need-drop-heads-requires
-drop-heads-requires c κs = search needs
-
-recompute-all-caches-requires : tie.Need-recompute-all-caches-requires
-recompute-all-caches-requires c κs = search needs
+update-heads-requires : tie.Need-update-heads-requires
+update-heads-requires c κs = search needs
 
 recompute-head-ref-counts-requires : tie.Need-recompute-head-ref-counts-requires
 recompute-head-ref-counts-requires c κs = search needs
@@ -40,22 +38,19 @@ same-length-7 : tie.Need-same-length-7
 same-length-7 c = search needs
 
 returns : tie.Need-returns
-unfolding blocksDeleted heir takesOver
+unfolding blocksDeleted heir takesOver headsAfter
 returns c =
-    let a = c .before .before .before .before .before .before .before .before .before .before .before .before .before .before .before .before .before .before .before .before .before .before .before .before .before .before .before .before .before .before .before .before .before .before .before .before .before .before .before .before .before .before .before .before .before .before .before .before .before .before .before .args in
-    let d = c .before .before .before .before .before .before .before .before .before .before .before .before .before .before .before .before .before .before .before .before .before .before .before .before .before .before .before .before .before .before .drop-heads in
+    let a = c .before .before .before .before .before .before .before .before .before .before .before .before .before .before .before .before .before .before .before .before .before .before .before .before .before .before .before .before .before .before .before .before .before .before .before .before .before .args in
     let t = tablesOf (a .hashes .now) (a .parents .now) (a .sequences .now) (a .counts .now) (a .flags .now) (a .tips .now) (a .tails .now) (a .missing .now) (a .requested .now) (a .arrivals .now) (a .connected .now) in
-    let e : headsOf (d .last .0) (d .last .1 .0) (d .last .1 .1 .0) (d .last .1 .1 .1 .0) (d .last .1 .1 .1 .1 .0) (d .last .1 .1 .1 .1 .1 .0)
-    ≡ dropHeads (a .deleted .now) (heir t (a .deleted .now) (a .reattach .0)) (a .reattach .0) (t .heads) = d .ensures ∙ rw (c .before .before .before .before .before .before .before .before .before .before .before .before .before .before .before .before .before .before .before .before .before .before .before .before .before .before .before .before .before .before .before .before .before .before .before .before .before .heir .ensures) in
-    rw (← e, ← c .before .before .before .before .before .before .before .before .before .before .before .before .recompute-all-caches .ensures, c .before .before .recompute-head-ref-counts .ensures)
+    let e = c .before .before .before .before .before .before .before .before .before .before .before .before .before .before .before .before .update-heads .ensures ∙ ap (λ m. headsAfter (a .parents .now) (a .sequences .now) (a .flags .now) (a .deleted .now) m (a .reattach .0) (t .heads)) (c .before .before .before .before .before .before .before .before .before .before .before .before .before .before .before .before .before .before .before .before .before .before .before .heir .ensures) in
+    rw (c .before .before .recompute-head-ref-counts .ensures) (ap (λ (h : Heads). record { blocks = recounted (t .blocks); heads = h }) e)
 
 pub on-blocks-deleted-spec : {M : Type 1} → statement M
 on-blocks-deleted-spec =
     tie.close
     (tie.spec
     heir-requires
-    drop-heads-requires
-    recompute-all-caches-requires
+    update-heads-requires
     recompute-head-ref-counts-requires
     same-length
     same-length-2

@@ -5,8 +5,8 @@ use borrow.Author.Tests.{not-true, not-false}
 use Rattle.rules.specs.Records.{used}
 use Rattle.rules.specs.Removal.{headFreed}
 use borrow.Author.Needs.{needs}
-use Rattle.removal.proofs.deleted.is_head_freed.Statement.{statement}
-use Rattle.removal.proofs.deleted.is_head_freed.Tie as tie
+use Rattle.removal.proofs.heir.is_head_freed.Statement.{statement}
+use Rattle.removal.proofs.heir.is_head_freed.Tie as tie
 
 is-used-requires : tie.Need-is-used-requires
 is-used-requires c κs = search needs

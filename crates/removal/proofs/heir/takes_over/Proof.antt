@@ -6,8 +6,8 @@ use Rattle.rules.specs.Common.{isSome}
 use Rattle.rules.specs.Records.{occupied}
 use Rattle.rules.specs.Caches.{slotOfHead}
 use borrow.Author.Needs.{needs}
-use Rattle.removal.proofs.deleted.takes_over.Statement.{statement}
-use Rattle.removal.proofs.deleted.takes_over.Tie as tie
+use Rattle.removal.proofs.heir.takes_over.Statement.{statement}
+use Rattle.removal.proofs.heir.takes_over.Tie as tie
 
 is-occupied-requires : tie.Need-is-occupied-requires
 is-occupied-requires c κs = search needs

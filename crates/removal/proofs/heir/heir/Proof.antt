@@ -1,8 +1,8 @@
 -- By whether the parent takes over.
 use mathlib.Core.Path.{sym, _∙_}
 use borrow.Author.Needs.{needs}
-use Rattle.removal.proofs.deleted.heir.Statement.{statement}
-use Rattle.removal.proofs.deleted.heir.Tie as tie
+use Rattle.removal.proofs.heir.heir.Statement.{statement}
+use Rattle.removal.proofs.heir.heir.Tie as tie
 
 takes-over-requires : tie.Need-takes-over-requires
 takes-over-requires c κs = search needs

@@ -3,8 +3,8 @@ use mathlib.Core.Path.{sym, ap, _∙_}
 use Rattle.rules.specs.Common.{isSome}
 use Rattle.rules.specs.Answers.{headFound}
 use borrow.Author.Needs.{needs}
-use Rattle.removal.proofs.deleted.is_head.Statement.{statement}
-use Rattle.removal.proofs.deleted.is_head.Tie as tie
+use Rattle.removal.proofs.heir.is_head.Statement.{statement}
+use Rattle.removal.proofs.heir.is_head.Tie as tie
 
 slot-of-head-requires : tie.Need-slot-of-head-requires
 slot-of-head-requires c κs = search needs

@@ -7,8 +7,8 @@ use lib.ListN.{length, drop}
 use Rattle.rules.specs.Records.{blocksOf}
 use Rattle.rules.specs.Removal.{freeAll}
 use Rattle.rules.proofs.Freed.{free-next, free-end}
-use Rattle.removal.proofs.deleted.free_all.Statement.{statement}
-use Rattle.removal.proofs.deleted.free_all.Tie as tie
+use Rattle.removal.proofs.free.free_all.Statement.{statement}
+use Rattle.removal.proofs.free.free_all.Tie as tie
 
 abbrev Inv-loop : tie.InvT-loop
 Inv-loop hashes₀ parents₀ sequences₀ counts₀ flags₀ deleted k₀ hashes parents sequences counts flags k =
@@ -23,11 +23,11 @@ loop-holds c = (omega arith, ((refl, (refl, (refl, (refl, refl)))), refl))
 mul-t8 : tie.Need-mul-t8 Inv-loop μ-loop
 mul-t8 c = omega arith
 
-shared-slice-read-t22 : tie.Need-shared-slice-read-t22 Inv-loop μ-loop
-shared-slice-read-t22 c = omega arith
+shared-slice-read-t21 : tie.Need-shared-slice-read-t21 Inv-loop μ-loop
+shared-slice-read-t21 c = omega arith
 
-free-block-requires : tie.Need-free-block-requires Inv-loop μ-loop
-free-block-requires c κs = search needs
+delete-requires : tie.Need-delete-requires Inv-loop μ-loop
+delete-requires c κs = search needs
 
 add-k : tie.Need-add-k Inv-loop μ-loop
 add-k c = omega arith
@@ -37,13 +37,13 @@ loop-less c = omega arith
 
 loop-again : tie.Need-loop-again Inv-loop μ-loop
 loop-again c =
-    let u = c .before .before .before .before .before .before .before .before .before .before .free-block in
+    let u = c .before .before .before .before .before .before .before .before .before .before .delete in
     let l = c .before .before .before .before .before .before .before .before .before .before .before .before .before .before .before .before .before .before .loop in
     let b = blocksOf (l .hashes) (l .parents) (l .sequences) (l .counts) (l .flags) in (
       omega arith,
       (
         (u .kept .0 ∙ l .inv .1 .0 .0, (u .kept .1 .0 ∙ l .inv .1 .0 .1 .0, (u .kept .1 .1 .0 ∙ l .inv .1 .0 .1 .1 .0, (u .kept .1 .1 .1 .0 ∙ l .inv .1 .0 .1 .1 .1 .0, u .kept .1 .1 .1 .1 .0 ∙ l .inv .1 .0 .1 .1 .1 .1)))),
-        ap (freeAll (drop (l .k + 1) (c .before .before .before .before .before .before .before .before .before .before .before .before .before .before .before .before .before .before .before .before .before .before .before .before .before .args .deleted .now))) (u .ensures) ∙ sym (free-next (c .before .before .before .before .before .before .before .before .before .before .before .before .before .before .before .before .before .before .before .before .before .before .before .before .before .args .deleted .now) (l .k) b (omega arith)) ∙ l .inv .1 .1,
+        ap (freeAll (drop (l .k + 1) (c .before .before .before .before .before .before .before .before .before .before .before .before .before .before .before .before .before .before .before .before .before .before .before .before .before .args .deleted .now))) (u .ensures .1) ∙ sym (free-next (c .before .before .before .before .before .before .before .before .before .before .before .before .before .before .before .before .before .before .before .before .before .before .before .before .before .args .deleted .now) (l .k) b (omega arith)) ∙ l .inv .1 .1,
       ),
     )
 
@@ -75,8 +75,8 @@ free-all-spec =
     μ-loop
     loop-holds
     mul-t8
-    shared-slice-read-t22
-    free-block-requires
+    shared-slice-read-t21
+    delete-requires
     add-k
     loop-less
     loop-again

@@ -7,8 +7,8 @@ use mathlib.Core.Option.{none}
 use Rattle.rules.specs.Common.{lowest}
 use Rattle.rules.specs.Removal.{headFreed}
 use Rattle.rules.proofs.Search.{lowest-none, lowest-next, lowest-at}
-use Rattle.removal.proofs.deleted.first_freed.Statement.{statement}
-use Rattle.removal.proofs.deleted.first_freed.Tie as tie
+use Rattle.removal.proofs.heir.first_freed.Statement.{statement}
+use Rattle.removal.proofs.heir.first_freed.Tie as tie
 
 abbrev Inv-loop : tie.InvT-loop
 Inv-loop deleted tips m k₀ k = (k ≤ m) × (lowest (headFreed deleted tips) k ≡ none)

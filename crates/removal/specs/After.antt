@@ -1,0 +1,12 @@
+-- The heads after a deletion: those that lost their tip first, then the caches of all.
+use mathlib.Core.List.{List}
+use mathlib.Core.Option.{Option}
+use Prim.Native.Nat.{ℕ}
+use Rattle.rules.specs.Records.{Heads}
+use Rattle.rules.specs.Caches.{caches, withCaches, recomputeAll}
+use Rattle.rules.specs.Removal.{dropHeads}
+
+unfoldable pub headsAfter : (parents sequences flags deleted : List ℕ) → Option ℕ → ℕ → Heads → Heads
+headsAfter parents sequences flags deleted moving parent h =
+    let d = dropHeads deleted moving parent h in
+    withCaches d (recomputeAll parents sequences flags (d .tips) (caches d))

@@ -253,7 +253,8 @@ fn reached(r: &mut Random, n: usize, m: usize) -> Tables {
     }
     let blocks = match r.below(20) {
         0 => 0,
-        1..=8 => n,
+        1..=5 => n,
+        6..=12 => n - 1,
         _ => r.below(n + 1),
     };
     order.truncate(blocks);
@@ -301,14 +302,16 @@ fn arrive(r: &mut Random, t: &mut Tables, hashes: &mut Hashes) {
     let Some(place) = t.sequences.iter().position(|&sequence| sequence == NONE_REF) else {
         return;
     };
-    let head = t.head(r.below(t.m()));
-    let awaited =
-        head.tip != NONE_REF && head.connected == 0 && t.sequences[head.tail as usize] > 0;
-    let (hash, sequence) = if awaited && r.percent(70) {
-        (head.missing, t.sequences[head.tail as usize] - 1)
-    } else {
-        let near = t.sequences[r.below(t.n())];
-        (hashes.next(r), if near < TOP { near + 1 } else { r.below(10) as u32 })
+    let stored: Vec<usize> =
+        (0..t.m()).filter(|&at| t.tips[at] != NONE_REF && t.connected[at] == 0).collect();
+    let awaited = if stored.is_empty() { None } else { Some(t.head(r.pick(&stored))) };
+    let awaited = awaited.filter(|head| t.sequences[head.tail as usize] > 0);
+    let (hash, sequence) = match awaited {
+        Some(head) if r.percent(75) => (head.missing, t.sequences[head.tail as usize] - 1),
+        _ => {
+            let near = t.sequences[r.below(t.n())];
+            (hashes.next(r), if near < TOP { near + 1 } else { r.below(10) as u32 })
+        }
     };
     let above: Vec<usize> = (0..t.n())
         .filter(|&at| {
@@ -317,10 +320,9 @@ fn arrive(r: &mut Random, t: &mut Tables, hashes: &mut Hashes) {
         .collect();
     let parent = if above.is_empty() || r.percent(30) { NONE_REF } else { r.pick(&above) as u32 };
     t.set_block(place, Block { hash, parent, sequence, count: 0, flags: 0 });
-    let more = r.below(3);
-    for _ in 0..more {
-        let at = r.below(t.m());
-        if t.tips[at] != NONE_REF && t.connected[at] == 0 {
+    let others = r.pick(&[0, 20, 80]);
+    for at in stored {
+        if r.percent(others) {
             t.set_head(at, Head { missing: hash, ..t.head(at) });
         }
     }
@@ -355,6 +357,7 @@ fn plant(r: &mut Random, t: &mut Tables, order: &[usize], hashes: &mut Hashes) {
     let roots = r.pick(&[0, 5, 25, 60]);
     let forks = r.pick(&[0, 10, 50, 100, 100]);
     let wide = r.percent(30);
+    let spread = r.pick(&[1, 1, 3]);
     let lowest = match r.below(4) {
         0 => 0,
         1 => TOP - r.below(order.len() + 1) as u32,
@@ -375,7 +378,7 @@ fn plant(r: &mut Random, t: &mut Tables, order: &[usize], hashes: &mut Hashes) {
             parent: parent.map_or(NONE_REF, |parent| parent as u32),
             sequence: match parent {
                 Some(parent) => t.sequences[parent] + 1,
-                None => lowest.saturating_add(r.below(3) as u32).min(TOP),
+                None => lowest.saturating_add(r.below(spread) as u32).min(TOP),
             },
             count: 0,
             flags: r.pick(&[0, 0, 0, 0b10, 0b11_1000, 0b1100_0000]),

@@ -8,6 +8,9 @@ use crate::tables::{BlockStatus, Hash, Tables};
 pub struct Args {
     pub slot: u32,
     pub parent: u32,
+    /// The parent of an admitted block.
+    pub found: Option<u32>,
+    pub head: u32,
     pub sequence: u32,
     pub hash: Hash,
     pub previous: Hash,
@@ -16,11 +19,22 @@ pub struct Args {
     pub flags: u8,
     pub status: BlockStatus,
     pub value: bool,
+    pub now: u64,
+    pub retry: u64,
+    pub requested: u64,
+    /// The slots of freed blocks.
+    pub deleted: Vec<u32>,
+    pub first: Rank,
+    pub second: Rank,
 }
+
+/// The value, length and hash of a branch.
+pub type Rank = (u64, u16, Hash);
 
 /// A field of the tables or the arguments.
 pub enum Field<'a> {
     BlockSlot(&'a mut u32),
+    HeadSlot(&'a mut u32),
     Sequence(&'a mut u32),
     Byte(&'a mut u8),
     Time(&'a mut u64),
@@ -32,12 +46,22 @@ impl Args {
     pub fn each_field(&mut self, see: &mut impl FnMut(Field)) {
         see(Field::BlockSlot(&mut self.slot));
         see(Field::BlockSlot(&mut self.parent));
+        self.found.iter_mut().for_each(|slot| see(Field::BlockSlot(slot)));
+        see(Field::HeadSlot(&mut self.head));
         see(Field::Sequence(&mut self.sequence));
         see(Field::Hash(&mut self.hash));
         see(Field::Hash(&mut self.previous));
         see(Field::Change(&mut self.change));
         see(Field::Byte(&mut self.count));
         see(Field::Byte(&mut self.flags));
+        see(Field::Time(&mut self.now));
+        see(Field::Time(&mut self.retry));
+        see(Field::Time(&mut self.requested));
+        self.deleted.iter_mut().for_each(|slot| see(Field::BlockSlot(slot)));
+        for (value, _, hash) in [&mut self.first, &mut self.second] {
+            see(Field::Time(value));
+            see(Field::Hash(hash));
+        }
     }
 
     /// The arguments by name, as they are shown.
@@ -45,6 +69,8 @@ impl Args {
         vec![
             ("slot", reference(self.slot)),
             ("parent", reference(self.parent)),
+            ("found", format!("{:?}", self.found)),
+            ("head", reference(self.head)),
             ("sequence", reference(self.sequence)),
             ("hash", hex(&self.hash)),
             ("previous", hex(&self.previous)),
@@ -53,8 +79,18 @@ impl Args {
             ("flags", format!("{:08b}", self.flags)),
             ("status", format!("{:?}", self.status)),
             ("value", self.value.to_string()),
+            ("now", self.now.to_string()),
+            ("retry", self.retry.to_string()),
+            ("requested", self.requested.to_string()),
+            ("deleted", format!("{:?}", self.deleted)),
+            ("first", rank(&self.first)),
+            ("second", rank(&self.second)),
         ]
     }
+}
+
+fn rank((value, len, hash): &Rank) -> String {
+    format!("value {value} length {len} hash {}", hex(hash))
 }
 
 impl Tables {

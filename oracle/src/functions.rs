@@ -39,19 +39,22 @@ pub struct Difference {
     pub port: (String, Tables),
 }
 
-/// `function!(name(arguments))` compares the functions of this name of both sides.
+/// `function!(name(arguments))` compares the functions of this name of both sides. The first
+/// argument may be lent.
 macro_rules! function {
-    ($name:ident($($taken:ident),*)) => { function!($name($($taken),*) where |_, _| true) };
-    ($name:ident($($taken:ident),*) where $compares:expr) => {
+    ($name:ident($(&$lent:ident,)? $($taken:ident),*)) => {
+        function!($name($(&$lent,)? $($taken),*) where |_, _| true)
+    };
+    ($name:ident($(&$lent:ident,)? $($taken:ident),*) where $compares:expr) => {
         Function {
             name: stringify!($name),
-            takes: &[$(stringify!($taken)),*],
+            takes: &[$(stringify!($lent),)? $(stringify!($taken)),*],
             compares: $compares,
             differ: |tables, _args| {
                 compare(
                     tables,
-                    |t| original::$name(t, $(_args.$taken),*),
-                    |t| port::$name(t, $(_args.$taken),*),
+                    |t| original::$name(t, $(&_args.$lent,)? $(_args.$taken),*),
+                    |t| port::$name(t, $(&_args.$lent,)? $(_args.$taken),*),
                 )
             },
         }
@@ -75,10 +78,35 @@ pub static FUNCTIONS: &[Function] = &[
     function!(insert_at(slot, hash, parent, sequence, count, flags) where slot_in_range),
     function!(delete(slot)),
     function!(resolve_parent_ref(slot, parent)),
+    function!(count()),
+    function!(has_stored_head()),
+    function!(slot_of_head(slot)),
+    function!(first_empty()),
+    function!(locate_anchor(slot)),
+    function!(recompute_caches(head, slot, previous) where head_in_range),
+    function!(refresh_head(slot)),
+    function!(recompute_all_caches()),
+    function!(select_eviction_victim()),
+    function!(evict_one()),
+    function!(insert_head(slot, now, previous)),
+    function!(resolve_pending_tails(slot, previous)),
+    function!(on_block_admitted(slot, found, previous, now)),
+    function!(refresh_tails()),
+    function!(recompute_head_ref_counts()),
+    function!(on_blocks_deleted(&deleted, parent)),
+    function!(head_eligible_at(requested, retry)),
+    function!(select_parent_recovery(now, retry)),
+    function!(mark_requested(head, now)),
+    function!(earliest_recovery_deadline(retry)),
+    function!(outranks(first, second)),
 ];
 
 fn slot_in_range(tables: &Tables, args: &Args) -> bool {
     (args.slot as usize) < tables.n()
+}
+
+fn head_in_range(tables: &Tables, args: &Args) -> bool {
+    (args.head as usize) < tables.m()
 }
 
 fn compare<R: PartialEq + Debug>(

@@ -1,7 +1,7 @@
 //! Random tables and arguments: tables that look like reached ones, such tables with some damage,
 //! and tables of arbitrary fields; arguments that meet them and arguments that do not.
 
-use crate::args::Args;
+use crate::args::{Args, Rank};
 use crate::random::Random;
 use crate::tables::{Block, BlockStatus, Hash, Head, NONE_REF, Tables};
 
@@ -35,6 +35,9 @@ pub fn tables(r: &mut Random) -> Tables {
         0..=3 => reached(r, n, m),
         4..=7 => {
             let mut t = reached(r, n, m);
+            if r.percent(60) {
+                crowd(r, &mut t);
+            }
             for _ in 0..1 + r.below(n.min(6)) {
                 damage(r, &mut t);
             }
@@ -55,9 +58,14 @@ pub fn args(r: &mut Random, t: &Tables) -> Args {
         4..=7 => block.sequence.wrapping_add(1),
         _ => sequence(r, t),
     };
+    let slot = met_slot(r, t);
+    let first = rank(r, hash);
+    let second = if r.percent(40) { first } else { rank(r, previous) };
     Args {
-        slot: slot(r, t.n()),
-        parent: slot(r, t.n()),
+        slot,
+        parent: any_slot(r, t.n()),
+        found: parent_of(r, t, slot),
+        head: head_slot(r, t.m()),
         sequence,
         hash,
         previous,
@@ -66,12 +74,75 @@ pub fn args(r: &mut Random, t: &Tables) -> Args {
         flags: byte(r),
         status: r.pick(&[BlockStatus::Stored, BlockStatus::Connected, BlockStatus::Active]),
         value: r.percent(50),
+        now: time(r),
+        retry: span(r),
+        requested: time(r),
+        deleted: freed(r, t),
+        first,
+        second: (r.pick(&[second.0, first.0]), r.pick(&[second.1, first.1]), previous),
     }
+}
+
+/// Often a block that has just been put in, as admit does before its heads follow, or one that a
+/// head misses; else any slot.
+fn met_slot(r: &mut Random, t: &Tables) -> u32 {
+    let met = match r.below(8) {
+        0..=3 => (0..t.n()).find(|&at| t.sequences[at] != NONE_REF && t.counts[at] == 0),
+        4 => {
+            let missing = t.head(r.below(t.m())).missing;
+            (0..t.n()).find(|&at| t.block(at).hash == missing)
+        }
+        _ => None,
+    };
+    met.map_or_else(|| any_slot(r, t.n()), |at| at as u32)
+}
+
+/// What admit could take for the parent of the block in this slot.
+fn parent_of(r: &mut Random, t: &Tables, slot: u32) -> Option<u32> {
+    let own = t.parents.get(slot as usize).copied().unwrap_or(NONE_REF);
+    match r.below(8) {
+        0 => None,
+        1 => Some(t.tips[r.below(t.m())]).filter(|&tip| tip != NONE_REF),
+        2 => Some(any_slot(r, t.n())).filter(|&parent| parent != NONE_REF),
+        _ => Some(own).filter(|&parent| parent != NONE_REF),
+    }
+}
+
+/// A list of slots, mostly tips of heads.
+fn freed(r: &mut Random, t: &Tables) -> Vec<u32> {
+    (0..r.below(t.m().min(4) + 2))
+        .map(|_| if r.percent(70) { t.tips[r.below(t.m())] } else { any_slot(r, t.n()) })
+        .collect()
+}
+
+fn head_slot(r: &mut Random, m: usize) -> u32 {
+    let inside = r.below(m) as u32;
+    match r.below(16) {
+        0 => m as u32,
+        1 => NONE_REF,
+        2 => inside.wrapping_add(1 << r.pick(&[8, 16, 24, 27, 29, 30, 31])),
+        _ => inside,
+    }
+}
+
+fn span(r: &mut Random) -> u64 {
+    match r.below(8) {
+        0 | 1 => 0,
+        2..=4 => r.below(20) as u64,
+        5 => 60,
+        6 => u64::MAX - r.below(20) as u64,
+        _ => r.word(),
+    }
+}
+
+fn rank(r: &mut Random, hash: Hash) -> Rank {
+    let len = r.word() as u16;
+    (time(r), r.pick(&[0, 1, 2, 255, 256, u16::MAX, len]), hash)
 }
 
 /// A block slot, in range two times in three, and otherwise one that a wrong width would take for
 /// one in range, or any.
-fn slot(r: &mut Random, n: usize) -> u32 {
+fn any_slot(r: &mut Random, n: usize) -> u32 {
     let inside = r.below(n) as u32;
     match r.below(16) {
         0 => n as u32,
@@ -171,7 +242,8 @@ impl Hashes {
 }
 
 /// Tables as calls could have left them: consistent trees, an active chain or none, right counts,
-/// and a head for each childless block that there is room for.
+/// and a head for each childless block that there is room for; often there is no more room. Often
+/// a block has been put in whose heads have yet to follow.
 fn reached(r: &mut Random, n: usize, m: usize) -> Tables {
     let mut t = Tables::empty(n, m);
     let mut hashes = Hashes::new(r);
@@ -181,7 +253,8 @@ fn reached(r: &mut Random, n: usize, m: usize) -> Tables {
     }
     let blocks = match r.below(20) {
         0 => 0,
-        1..=8 => n,
+        1..=5 => n,
+        6..=12 => n - 1,
         _ => r.below(n + 1),
     };
     order.truncate(blocks);
@@ -198,14 +271,93 @@ fn reached(r: &mut Random, n: usize, m: usize) -> Tables {
         t.counts[slot] = children[slot].clamp(1, 255) as u8;
     }
     order.retain(|&slot| children[slot] == 0);
+    if order.len() >= 2 && r.percent(70) {
+        let most = HEAD_SLOTS.iter().rev().find(|(slots, _)| *slots <= order.len());
+        t = with_head_slots(t, most.expect("two are enough").0);
+    }
     raise_heads(r, &mut t, &order, &mut hashes);
+    if r.percent(60) {
+        arrive(r, &mut t, &mut hashes);
+    }
     t
+}
+
+/// The same blocks with so many empty head slots.
+fn with_head_slots(t: Tables, m: usize) -> Tables {
+    let heads = Tables::empty(0, m);
+    Tables {
+        tips: heads.tips,
+        tails: heads.tails,
+        missing: heads.missing,
+        requested: heads.requested,
+        arrivals: heads.arrivals,
+        connected: heads.connected,
+        ..t
+    }
+}
+
+/// Puts a block in an empty slot, as admit does: the one that a head misses, a child of some block,
+/// or one of unknown descent.
+fn arrive(r: &mut Random, t: &mut Tables, hashes: &mut Hashes) {
+    let Some(place) = t.sequences.iter().position(|&sequence| sequence == NONE_REF) else {
+        return;
+    };
+    let stored: Vec<usize> =
+        (0..t.m()).filter(|&at| t.tips[at] != NONE_REF && t.connected[at] == 0).collect();
+    let awaited = if stored.is_empty() { None } else { Some(t.head(r.pick(&stored))) };
+    let awaited = awaited.filter(|head| t.sequences[head.tail as usize] > 0);
+    let (hash, sequence) = match awaited {
+        Some(head) if r.percent(75) => (head.missing, t.sequences[head.tail as usize] - 1),
+        _ => {
+            let near = t.sequences[r.below(t.n())];
+            (hashes.next(r), if near < TOP { near + 1 } else { r.below(10) as u32 })
+        }
+    };
+    let above: Vec<usize> = (0..t.n())
+        .filter(|&at| {
+            t.sequences[at] != NONE_REF && t.sequences[at].checked_add(1) == Some(sequence)
+        })
+        .collect();
+    let parent = if above.is_empty() || r.percent(30) { NONE_REF } else { r.pick(&above) as u32 };
+    t.set_block(place, Block { hash, parent, sequence, count: 0, flags: 0 });
+    let others = r.pick(&[0, 20, 80]);
+    for at in stored {
+        if r.percent(others) {
+            t.set_head(at, Head { missing: hash, ..t.head(at) });
+        }
+    }
+}
+
+/// Puts a head in each empty head slot: one that shares its tip with another, one on any occupied
+/// block, or one that points nowhere.
+fn crowd(r: &mut Random, t: &mut Tables) {
+    for place in 0..t.m() {
+        if t.tips[place] != NONE_REF {
+            continue;
+        }
+        let block = r.below(t.n());
+        let head = match r.below(8) {
+            0..=2 => t.head(r.below(t.m())),
+            3..=5 => Head {
+                tip: block as u32,
+                tail: if r.percent(50) { block } else { r.below(t.n()) } as u32,
+                missing: t.block(r.below(t.n())).hash,
+                requested: time(r),
+                arrival: time(r),
+                connected: r.pick(&[0, 0, 1]),
+            },
+            _ => Head { tip: any_slot(r, t.n()), tail: any_slot(r, t.n()), ..Head::EMPTY },
+        };
+        t.set_head(place, head);
+    }
 }
 
 /// Puts a block in each of the slots, in this order, each a root or the child of an earlier one.
 fn plant(r: &mut Random, t: &mut Tables, order: &[usize], hashes: &mut Hashes) {
-    let roots = r.pick(&[0, 5, 25]);
-    let forks = r.pick(&[0, 10, 50, 100]);
+    let roots = r.pick(&[0, 5, 25, 60]);
+    let forks = r.pick(&[0, 10, 50, 100, 100]);
+    let wide = r.percent(30);
+    let spread = r.pick(&[1, 1, 3]);
     let lowest = match r.below(4) {
         0 => 0,
         1 => TOP - r.below(order.len() + 1) as u32,
@@ -216,6 +368,7 @@ fn plant(r: &mut Random, t: &mut Tables, order: &[usize], hashes: &mut Hashes) {
         let parent = match placed {
             0 => None,
             _ if r.percent(roots) => None,
+            _ if wide => Some(order[r.below(placed.min(3))]),
             _ if r.percent(forks) => Some(order[r.below(placed)]),
             _ => Some(order[placed - 1]),
         };
@@ -225,7 +378,7 @@ fn plant(r: &mut Random, t: &mut Tables, order: &[usize], hashes: &mut Hashes) {
             parent: parent.map_or(NONE_REF, |parent| parent as u32),
             sequence: match parent {
                 Some(parent) => t.sequences[parent] + 1,
-                None => lowest.saturating_add(r.below(3) as u32).min(TOP),
+                None => lowest.saturating_add(r.below(spread) as u32).min(TOP),
             },
             count: 0,
             flags: r.pick(&[0, 0, 0, 0b10, 0b11_1000, 0b1100_0000]),
@@ -286,7 +439,7 @@ fn damage(r: &mut Random, t: &mut Tables) {
     let at = r.below(t.n());
     let head = r.below(t.m());
     match r.below(16) {
-        0 => t.parents[at] = slot(r, t.n()),
+        0 => t.parents[at] = any_slot(r, t.n()),
         1 => t.parents[at] = at as u32,
         2 => t.sequences[at] = sequence(r, t),
         3 => t.sequences[at] = NONE_REF,
@@ -299,8 +452,8 @@ fn damage(r: &mut Random, t: &mut Tables) {
         }
         7 => t.set_block(at, t.block(r.below(t.n()))),
         8 => t.set_block(at, any_block(r, t)),
-        9 => t.tips[head] = slot(r, t.n()),
-        10 => t.tails[head] = slot(r, t.n()),
+        9 => t.tips[head] = any_slot(r, t.n()),
+        10 => t.tails[head] = any_slot(r, t.n()),
         11 => {
             let near = t.block(r.below(t.n())).hash;
             let missing = hash_near(r, t, near);
@@ -309,7 +462,7 @@ fn damage(r: &mut Random, t: &mut Tables) {
         12 => t.requested[head] = time(r),
         13 => t.connected[head] = byte(r),
         14 => t.set_head(head, t.head(r.below(t.m()))),
-        _ => t.active = slot(r, t.n()),
+        _ => t.active = any_slot(r, t.n()),
     }
 }
 
@@ -325,8 +478,8 @@ fn arbitrary(r: &mut Random, n: usize, m: usize) -> Tables {
     for at in 0..m {
         let near = t.block(r.below(n)).hash;
         let head = Head {
-            tip: slot(r, n),
-            tail: slot(r, n),
+            tip: any_slot(r, n),
+            tail: any_slot(r, n),
             missing: hash_near(r, &t, near),
             requested: time(r),
             arrival: time(r),
@@ -334,7 +487,7 @@ fn arbitrary(r: &mut Random, n: usize, m: usize) -> Tables {
         };
         t.set_head(at, head);
     }
-    t.active = slot(r, n);
+    t.active = any_slot(r, n);
     t
 }
 
@@ -342,7 +495,7 @@ fn any_block(r: &mut Random, t: &Tables) -> Block {
     let near = t.block(r.below(t.n())).hash;
     Block {
         hash: hash_near(r, t, near),
-        parent: slot(r, t.n()),
+        parent: any_slot(r, t.n()),
         sequence: sequence(r, t),
         count: byte(r),
         flags: byte(r),

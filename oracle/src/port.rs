@@ -1,7 +1,8 @@
 //! The port's functions on the lent buffers, by the C entry points of its static library. A slice
 //! passes as its pointer and its length; NONE_REF stands for none, 1 and 0 for yes and no.
 
-use crate::tables::{Block, BlockStatus, Hash, NONE_REF, SPARE, Tables};
+use crate::args::Rank;
+use crate::tables::{Block, BlockStatus, Hash, Located, NONE_REF, Recovery, SPARE, Tables};
 
 /// Declares entry points as the port does: in `name(u32, [u8], [mut u8]) -> u32` a slice is its
 /// pointer and its length.
@@ -44,6 +45,50 @@ entries! {
     );
     probe_delete([mut u8], [mut u32], [mut u32], [mut u8], [mut u8], u32) -> u32;
     probe_resolve_parent_ref([mut u32], u32, u32);
+    probe_count([u32]) -> u32;
+    probe_has_stored_head([u32], [u8]) -> u32;
+    probe_slot_of_head([u32], u32) -> u32;
+    probe_first_empty([u32]) -> u32;
+    probe_locate_anchor([u32], [u32], [u8], u32) -> u64;
+    probe_recompute_caches(
+        [u32], [u32], [u8], [u32], [mut u32], [mut u8], [mut u64], [mut u8], u32, u32, [u8]
+    );
+    probe_refresh_head([u32], [u32], [u8], [u32], [mut u32], [mut u8], [mut u64], [mut u8], u32);
+    probe_recompute_all_caches(
+        [u32], [u32], [u8], [u32], [mut u32], [mut u8], [mut u64], [mut u8]
+    );
+    probe_select_eviction_victim([u8], [u32], [u32], u32) -> u32;
+    probe_evict_one(
+        [mut u8], [mut u32], [mut u32], [mut u8], [mut u8],
+        [mut u32], [mut u32], [mut u8], [mut u64], [mut u64], [mut u8], u32
+    );
+    probe_insert_head(
+        [mut u8], [mut u32], [mut u32], [mut u8], [mut u8],
+        [mut u32], [mut u32], [mut u8], [mut u64], [mut u64], [mut u8],
+        u32, u64, u32, [u8], u32
+    );
+    probe_resolve_pending_tails(
+        [u8], [mut u32], [u32], [mut u8], [u8],
+        [mut u32], [mut u32], [mut u8], [mut u64], [mut u64], [mut u8], u32, [u8]
+    );
+    probe_on_block_admitted(
+        [mut u8], [mut u32], [mut u32], [mut u8], [mut u8],
+        [mut u32], [mut u32], [mut u8], [mut u64], [mut u64], [mut u8],
+        u32, u32, [u8], u64, u32
+    );
+    probe_refresh_tails(
+        [u8], [u32], [u32], [u8], [u8], [u32], [mut u32], [mut u8], [mut u64], [u64], [mut u8]
+    );
+    probe_recompute_head_ref_counts([u32], [u32], [mut u8]);
+    probe_on_blocks_deleted(
+        [u8], [u32], [u32], [mut u8], [u8],
+        [mut u32], [mut u32], [mut u8], [mut u64], [mut u64], [mut u8], [u32], u32
+    );
+    probe_head_eligible_at(u64, u64) -> u64;
+    probe_select_parent_recovery([u8], [u32], [u32], [u32], [u64], [u8], u64, u64) -> u64;
+    probe_mark_requested([mut u64], u32, u64);
+    probe_earliest_recovery_deadline([u32], [u64], [u8], u64, [mut u64]) -> u32;
+    probe_outranks(u64, u16, [u8], u64, u16, [u8]) -> u32;
 }
 
 /// `call!(name(word, [slice], [mut slice]))` calls an entry point in the same way.
@@ -180,4 +225,163 @@ pub fn delete(t: &mut Tables, slot: u32) -> bool {
 
 pub fn resolve_parent_ref(t: &mut Tables, slot: u32, parent: u32) {
     call!(probe_resolve_parent_ref([mut t.parents], slot, parent))
+}
+
+pub fn count(t: &Tables) -> usize {
+    call!(probe_count([t.tips])) as usize
+}
+
+pub fn has_stored_head(t: &Tables) -> bool {
+    said(call!(probe_has_stored_head([t.tips], [t.connected])))
+}
+
+pub fn slot_of_head(t: &Tables, slot: u32) -> Option<u32> {
+    found(call!(probe_slot_of_head([t.tips], slot)))
+}
+
+pub fn first_empty(t: &Tables) -> Option<u32> {
+    found(call!(probe_first_empty([t.tips])))
+}
+
+/// 2^32 is added to a connection.
+pub fn locate_anchor(t: &Tables, slot: u32) -> Located {
+    let (kind, at) =
+        halves(call!(probe_locate_anchor([t.parents], [t.sequences], [t.flags], slot)));
+    match kind {
+        0 => Located::Tail(at),
+        1 => Located::Connection(at),
+        other => panic!("neither tail nor connection: {other}"),
+    }
+}
+
+fn halves(answer: u64) -> (u32, u32) {
+    ((answer >> 32) as u32, answer as u32)
+}
+
+pub fn recompute_caches(t: &mut Tables, head: u32, slot: u32, previous: Hash) {
+    call!(probe_recompute_caches(
+        [t.parents], [t.sequences], [t.flags], [t.tips],
+        [mut t.tails], [mut t.missing], [mut t.requested], [mut t.connected],
+        head, slot, [previous]
+    ))
+}
+
+pub fn refresh_head(t: &mut Tables, slot: u32) {
+    call!(probe_refresh_head(
+        [t.parents], [t.sequences], [t.flags], [t.tips],
+        [mut t.tails], [mut t.missing], [mut t.requested], [mut t.connected],
+        slot
+    ))
+}
+
+pub fn recompute_all_caches(t: &mut Tables) {
+    call!(probe_recompute_all_caches(
+        [t.parents], [t.sequences], [t.flags], [t.tips],
+        [mut t.tails], [mut t.missing], [mut t.requested], [mut t.connected]
+    ))
+}
+
+pub fn select_eviction_victim(t: &Tables) -> Option<u32> {
+    let active = t.active;
+    found(call!(probe_select_eviction_victim([t.hashes], [t.sequences], [t.tips], active)))
+}
+
+pub fn evict_one(t: &mut Tables) {
+    let active = t.active;
+    call!(probe_evict_one(
+        [mut t.hashes], [mut t.parents], [mut t.sequences], [mut t.counts], [mut t.flags],
+        [mut t.tips], [mut t.tails], [mut t.missing], [mut t.requested], [mut t.arrivals],
+        [mut t.connected], active
+    ))
+}
+
+/// The tip is the arriving block, as in the original.
+pub fn insert_head(t: &mut Tables, slot: u32, now: u64, previous: Hash) {
+    let active = t.active;
+    call!(probe_insert_head(
+        [mut t.hashes], [mut t.parents], [mut t.sequences], [mut t.counts], [mut t.flags],
+        [mut t.tips], [mut t.tails], [mut t.missing], [mut t.requested], [mut t.arrivals],
+        [mut t.connected],
+        slot, now, slot, [previous], active
+    ))
+}
+
+pub fn resolve_pending_tails(t: &mut Tables, slot: u32, previous: Hash) {
+    call!(probe_resolve_pending_tails(
+        [t.hashes], [mut t.parents], [t.sequences], [mut t.counts], [t.flags],
+        [mut t.tips], [mut t.tails], [mut t.missing], [mut t.requested], [mut t.arrivals],
+        [mut t.connected], slot, [previous]
+    ))
+}
+
+pub fn on_block_admitted(t: &mut Tables, slot: u32, parent: Option<u32>, previous: Hash, now: u64) {
+    let active = t.active;
+    let parent = parent.unwrap_or(NONE_REF);
+    call!(probe_on_block_admitted(
+        [mut t.hashes], [mut t.parents], [mut t.sequences], [mut t.counts], [mut t.flags],
+        [mut t.tips], [mut t.tails], [mut t.missing], [mut t.requested], [mut t.arrivals],
+        [mut t.connected],
+        slot, parent, [previous], now, active
+    ))
+}
+
+pub fn refresh_tails(t: &mut Tables) {
+    call!(probe_refresh_tails(
+        [t.hashes], [t.parents], [t.sequences], [t.counts], [t.flags],
+        [t.tips], [mut t.tails], [mut t.missing], [mut t.requested], [t.arrivals],
+        [mut t.connected]
+    ))
+}
+
+pub fn recompute_head_ref_counts(t: &mut Tables) {
+    call!(probe_recompute_head_ref_counts([t.parents], [t.sequences], [mut t.counts]))
+}
+
+pub fn on_blocks_deleted(t: &mut Tables, deleted: &[u32], parent: u32) {
+    call!(probe_on_blocks_deleted(
+        [t.hashes], [t.parents], [t.sequences], [mut t.counts], [t.flags],
+        [mut t.tips], [mut t.tails], [mut t.missing], [mut t.requested], [mut t.arrivals],
+        [mut t.connected], [deleted], parent
+    ))
+}
+
+pub fn head_eligible_at(_: &Tables, requested: u64, retry: u64) -> u64 {
+    call!(probe_head_eligible_at(requested, retry))
+}
+
+/// The head slot is the upper half of the answer and the claimed sequence the lower; the missing
+/// hash is the head's.
+pub fn select_parent_recovery(t: &Tables, now: u64, retry: u64) -> Option<Recovery> {
+    let answer = call!(probe_select_parent_recovery(
+        [t.hashes],
+        [t.sequences],
+        [t.tips],
+        [t.tails],
+        [t.requested],
+        [t.connected],
+        now,
+        retry
+    ));
+    (answer != u64::MAX).then(|| {
+        let (head, claimed) = halves(answer);
+        Recovery { head, missing: t.head(head as usize).missing, claimed }
+    })
+}
+
+pub fn mark_requested(t: &mut Tables, head: u32, now: u64) {
+    call!(probe_mark_requested([mut t.requested], head, now))
+}
+
+pub fn earliest_recovery_deadline(t: &Tables, retry: u64) -> Option<u64> {
+    let mut time = [0];
+    let given = call!(probe_earliest_recovery_deadline(
+        [t.tips], [t.requested], [t.connected], retry, [mut time]
+    ));
+    said(given).then_some(time[0])
+}
+
+pub fn outranks(_: &Tables, first: Rank, second: Rank) -> bool {
+    let (value, len, hash) = first;
+    let (value2, len2, hash2) = second;
+    said(call!(probe_outranks(value, len, [hash], value2, len2, [hash2])))
 }

@@ -200,6 +200,7 @@ fn cost(case: &Case) -> (usize, u128) {
         sum += match field {
             Field::BlockSlot(&mut NONE_REF) | Field::Sequence(&mut NONE_REF) => 0,
             Field::BlockSlot(number) | Field::Sequence(number) => 1 + u128::from(*number),
+            Field::HeadSlot(number) => u128::from(*number),
             Field::Byte(byte) => u128::from(*byte),
             Field::Time(time) => u128::from(*time),
             Field::Change(change) => u128::from(change.unsigned_abs()),
@@ -221,6 +222,10 @@ fn plainer(field: Field, step: usize) -> bool {
         Field::BlockSlot(n) | Field::Sequence(n) => {
             *n = [NONE_REF, 0, 1, *n / 2, n.saturating_sub(1)][step];
             step < 4
+        }
+        Field::HeadSlot(n) => {
+            *n = [0, 1, n.saturating_sub(1)][step];
+            step < 2
         }
         Field::Byte(n) => {
             *n = [0, 1, 2, *n / 2, n.saturating_sub(1)][step];

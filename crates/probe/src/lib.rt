@@ -12,6 +12,16 @@ ghost use Rattle.rules.specs.Hashes.{hashAt, hashLess};
 ghost use Rattle.rules.specs.Records.{blocksOf, occupied, statusNumber};
 ghost use Rattle.rules.specs.BlockTable.{find, nextFree, findParent, get, headRefCount, statusAt, markSubtree, walksToActiveChain, adjustedAt, adjustCounts, setOccupied, setOnActiveChain, setStatus, delete, insertAt, resolveParent};
 ghost use Rattle.rules.specs.declared.Block.{Block};
+
+pub mod admit;
+pub mod delete;
+pub mod evict;
+pub mod head_table;
+pub mod numbers;
+pub mod rank;
+pub mod recover;
+
+use crate::numbers::said;
 use rules::Block;
 use rules::BlockSlot;
 use rules::BlockStatus;
@@ -36,12 +46,6 @@ fn counted(c: Counted) -> u32
         Counted::Count(count) => count as u32,
         Counted::Nothing => BlockSlot::NONE_REF,
     }
-}
-
-fn said(answer: bool) -> u32
-    ensures { λ r. ⌜ r ≡ yes answer ⌝ }
-{
-    if answer { 1 } else { 0 }
 }
 
 fn status_number(s: BlockStatus) -> u32

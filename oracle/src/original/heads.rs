@@ -5,7 +5,7 @@ use super::{Anchor, ChainHeadEntry, ChainHeadsTable};
 use crate::blocks::BlockTable;
 use crate::blocks::judged::{load_blocks, store_blocks};
 use crate::sizes::{by_m, by_n};
-use crate::tables::{Hash, Head, Located, Recovery, Tables};
+use crate::tables::{Hash, Head, Located, NONE_REF, Recovery, Tables};
 
 fn entry(head: Head) -> ChainHeadEntry {
     ChainHeadEntry {
@@ -133,6 +133,18 @@ pub fn on_block_admitted(
 ) {
     let active = t.active;
     on_both!(t, |b, h| h.on_block_admitted(b, slot, parent, previous, now, active))
+}
+
+/// Not a function of the original's, but the step that the scope document adds to admit: the
+/// original's `refresh_head`, in slot order, for each stored head whose cached tail is occupied and
+/// has a parent.
+pub fn refresh_tails(t: &mut Tables) {
+    on_both!(t, |b, h| for slot in 0..h.heads.len() {
+        let tail = h.stored_head_tail(slot).and_then(|tail| b.get(tail));
+        if tail.is_some_and(|tail| tail.parent_ref() != NONE_REF) {
+            h.refresh_head(b, h.heads[slot].head_idx);
+        }
+    })
 }
 
 pub fn on_blocks_deleted(t: &mut Tables, deleted: &[u32], parent: u32) {

@@ -2,10 +2,10 @@
 //! block's bytes that the file names.
 
 use super::Rank;
-use crate::tables::Hash;
+use crate::tables::{Hash, Tables};
 
 /// Whether the first value, length and hash win over the second.
-pub fn outranks(first: (u64, u16, Hash), second: (u64, u16, Hash)) -> bool {
+pub fn outranks(_: &Tables, first: (u64, u16, Hash), second: (u64, u16, Hash)) -> bool {
     let rank = |(value, len, hash)| Rank { value, len, hash };
     rank(first).outranks(&rank(second))
 }

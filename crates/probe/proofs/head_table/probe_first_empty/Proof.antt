@@ -1,0 +1,17 @@
+use mathlib.Core.Path.{ap, _∙_}
+use Rattle.probe.specs.Numbers.{orNone}
+use borrow.Author.Needs.{needs}
+use Rattle.probe.proofs.head_table.probe_first_empty.Statement.{statement}
+use Rattle.probe.proofs.head_table.probe_first_empty.Tie as tie
+
+first-empty-requires : tie.Need-first-empty-requires
+first-empty-requires c κs = search needs
+
+found-head-requires : tie.Need-found-head-requires
+found-head-requires c κs = search needs
+
+returns : tie.Need-returns
+returns c = c .found-head .ensures ∙ ap orNone (c .before .first-empty .ensures)
+
+pub probe-first-empty-spec : {M : Type 1} → statement M
+probe-first-empty-spec = tie.close (tie.spec first-empty-requires found-head-requires returns)

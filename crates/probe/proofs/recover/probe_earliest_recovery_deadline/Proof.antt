@@ -1,0 +1,42 @@
+use mathlib.Core.Path.{_≡_, refl, sym, ap, _∙_}
+use Rattle.rules.specs.Answers.{deadlineGot}
+use borrow.Author.Needs.{needs}
+use Rattle.probe.proofs.recover.probe_earliest_recovery_deadline.Statement.{statement}
+use Rattle.probe.proofs.recover.probe_earliest_recovery_deadline.Tie as tie
+
+earliest-recovery-deadline-requires : tie.Need-earliest-recovery-deadline-requires
+earliest-recovery-deadline-requires c κs = search needs
+
+enum-known-time : tie.Need-enum-known-time
+enum-known-time c = search needs
+
+put-time-requires : tie.Need-put-time-requires
+put-time-requires c κs = search needs
+
+enum-told : tie.Need-enum-told
+enum-told c = search needs
+
+same-length : tie.Need-same-length
+same-length c = search needs
+
+returns : tie.Need-returns
+returns c =
+    let e = sym (c .before .before .before .before .before .before .before .earliest-recovery-deadline .ensures) ∙ ap deadlineGot (c .before .before .before .before .before .time .given .1) in
+    rw e (refl, c .before .before .put-time .ensures)
+
+returns-2 : tie.Need-returns-2
+returns-2 c =
+    let e = sym (c .before .before .earliest-recovery-deadline .ensures) ∙ ap deadlineGot (c .enum-told .given .1) in
+    rw e (refl, refl)
+
+pub probe-earliest-recovery-deadline-spec : {M : Type 1} → statement M
+probe-earliest-recovery-deadline-spec =
+    tie.close
+    (tie.spec
+    earliest-recovery-deadline-requires
+    enum-known-time
+    put-time-requires
+    enum-told
+    same-length
+    returns
+    returns-2)

@@ -94,6 +94,7 @@ pub static FUNCTIONS: &[Function] = &[
     function!(refresh_tails()),
     function!(recompute_head_ref_counts()),
     function!(on_blocks_deleted(&deleted, parent)),
+    function!(rebuild_from_blocks(now)),
     function!(head_eligible_at(requested, retry)),
     function!(select_parent_recovery(now, retry)),
     function!(mark_requested(head, now)),

@@ -62,6 +62,10 @@ entries! {
         [mut u8], [mut u32], [mut u32], [mut u8], [mut u8],
         [mut u32], [mut u32], [mut u8], [mut u64], [mut u64], [mut u8], u32
     );
+    probe_rebuild_from_blocks(
+        [mut u8], [mut u32], [mut u32], [mut u8], [mut u8],
+        [mut u32], [mut u32], [mut u8], [mut u64], [mut u64], [mut u8], u64, u32
+    );
     probe_insert_head(
         [mut u8], [mut u32], [mut u32], [mut u8], [mut u8],
         [mut u32], [mut u32], [mut u8], [mut u64], [mut u64], [mut u8],
@@ -342,6 +346,15 @@ pub fn on_blocks_deleted(t: &mut Tables, deleted: &[u32], parent: u32) {
         [t.hashes], [t.parents], [t.sequences], [mut t.counts], [t.flags],
         [mut t.tips], [mut t.tails], [mut t.missing], [mut t.requested], [mut t.arrivals],
         [mut t.connected], [deleted], parent
+    ))
+}
+
+pub fn rebuild_from_blocks(t: &mut Tables, now: u64) {
+    let active = t.active;
+    call!(probe_rebuild_from_blocks(
+        [mut t.hashes], [mut t.parents], [mut t.sequences], [mut t.counts], [mut t.flags],
+        [mut t.tips], [mut t.tails], [mut t.missing], [mut t.requested], [mut t.arrivals],
+        [mut t.connected], now, active
     ))
 }
 

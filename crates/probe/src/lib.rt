@@ -20,6 +20,7 @@ pub mod head_table;
 pub mod numbers;
 pub mod rank;
 pub mod recover;
+pub mod restore;
 
 use crate::numbers::said;
 use rules::Block;

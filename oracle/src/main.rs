@@ -58,7 +58,7 @@ fn main() -> ExitCode {
         round += 1;
     }
     for (function, calls) in FUNCTIONS.iter().zip(&compared) {
-        println!("{:<24}{calls:>10}", function.name);
+        println!("{:<28}{calls:>8}", function.name);
     }
     println!(
         "compared {} calls of {} functions, no difference (seed {}, {round} tables, {:.1} s)",

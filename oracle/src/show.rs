@@ -32,7 +32,7 @@ fn side(name: &str, before: &Tables, (answer, after): &(String, Tables)) -> Stri
 }
 
 /// A line for each slot.
-fn lines(t: &Tables) -> Vec<String> {
+pub fn lines(t: &Tables) -> Vec<String> {
     let blocks = (0..t.n()).map(|slot| match t.block(slot) {
         Block::EMPTY => format!("  block {slot}: empty"),
         block => format!(

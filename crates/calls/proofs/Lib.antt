@@ -1,0 +1,3 @@
+pub mod Filling
+pub mod Replies
+pub mod Empties

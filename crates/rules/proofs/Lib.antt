@@ -9,6 +9,7 @@ pub mod Best
 pub mod Timer
 pub mod Rank
 pub mod Walks
+pub mod Refusals
 pub mod Marked
 pub mod Kept
 pub mod Demand3

@@ -1,0 +1,4 @@
+pub mod Bytes
+pub mod Places
+pub mod ReadBack
+pub mod Short

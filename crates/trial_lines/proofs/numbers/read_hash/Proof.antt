@@ -1,0 +1,98 @@
+-- Two digits below 16.
+use native.Mathlib.Omega.{arith}
+use mathlib.Core.Path.{_≡_, sym, ap, _∙_}
+use mathlib.Core.Option.{Option, none, some}
+use lib.ListN.{getD}
+use borrow.Author.Tests.{eq-eqb, ne-eqb}
+use Rattle.trial_lines.specs.Reading.{hexDigit, hashByte}
+use Rattle.trial_lines.specs.Answers.{byteRead}
+use Rattle.trial_lines.proofs.Bytes.{hex-small}
+use borrow.Author.Needs.{needs}
+use Rattle.trial_lines.proofs.numbers.read_hash.Statement.{statement}
+use Rattle.trial_lines.proofs.numbers.read_hash.Tie as tie
+
+returns : tie.Need-returns
+unfolding hashByte
+returns c = rw (ne-eqb _ 2 (c .if1 .taken))
+
+byte-at-requires : tie.Need-byte-at-requires
+byte-at-requires c κs = search needs
+
+hex-digit-requires : tie.Need-hex-digit-requires
+hex-digit-requires c κs = search needs
+
+enum-known-high : tie.Need-enum-known-high
+enum-known-high c = search needs
+
+enum-told : tie.Need-enum-told
+enum-told c = search needs
+
+returns-2 : tie.Need-returns-2
+unfolding hashByte
+returns-2 c =
+    let b = c .before .before .before .before .before .before .args .bytes .now in
+    let h : hexDigit (getD b 0 0) ≡ none = ap hexDigit (sym (c .before .before .before .byte-at .ensures)) ∙ sym (c .before .before .hex-digit .ensures) ∙ ap byteRead (c .enum-told .given .1) in
+    rw (eq-eqb _ 2 (c .before .before .before .before .if1 .left), h)
+
+byte-at-requires-2 : tie.Need-byte-at-requires-2
+byte-at-requires-2 c κs = search needs
+
+hex-digit-requires-2 : tie.Need-hex-digit-requires-2
+hex-digit-requires-2 c κs = search needs
+
+enum-known-low : tie.Need-enum-known-low
+enum-known-low c = search needs
+
+enum-told-2 : tie.Need-enum-told-2
+enum-told-2 c = search needs
+
+returns-3 : tie.Need-returns-3
+unfolding hashByte
+returns-3 c =
+    let b = c .before .before .before .before .before .before .before .before .before .before .before .args .bytes .now in
+    let h : hexDigit (getD b 0 0) ≡ some (c .before .before .before .before .before .high .given .0 .0) = ap hexDigit (sym (c .before .before .before .before .before .before .before .before .byte-at .ensures)) ∙ sym (c .before .before .before .before .before .before .before .hex-digit .ensures) ∙ ap byteRead (c .before .before .before .before .before .high .given .1) in
+    let l : hexDigit (getD b 1 0) ≡ none = ap hexDigit (sym (c .before .before .before .byte-at2 .ensures)) ∙ sym (c .before .before .hex-digit2 .ensures) ∙ ap byteRead (c .enum-told2 .given .1) in
+    rw (eq-eqb _ 2 (c .before .before .before .before .before .before .before .before .before .if1 .left), h, l)
+
+mul-t7 : tie.Need-mul-t7
+mul-t7 c =
+    let b = c .before .before .before .before .before .before .before .before .before .before .before .before .args .bytes .now in
+    let h : hexDigit (getD b 0 0) ≡ some (c .before .before .before .before .before .before .high .given .0 .0) = ap hexDigit (sym (c .before .before .before .before .before .before .before .before .before .byte-at .ensures)) ∙ sym (c .before .before .before .before .before .before .before .before .hex-digit .ensures) ∙ ap byteRead (c .before .before .before .before .before .before .high .given .1) in
+    let s = hex-small (getD b 0 0) (c .before .before .before .before .before .before .high .given .0 .0) h in
+    omega arith
+
+add-t9 : tie.Need-add-t9
+add-t9 c =
+    let b = c .before .before .before .before .before .before .before .before .before .before .before .before .args .bytes .now in
+    let h : hexDigit (getD b 0 0) ≡ some (c .before .before .before .before .before .before .high .given .0 .0) = ap hexDigit (sym (c .before .before .before .before .before .before .before .before .before .byte-at .ensures)) ∙ sym (c .before .before .before .before .before .before .before .before .hex-digit .ensures) ∙ ap byteRead (c .before .before .before .before .before .before .high .given .1) in
+    let l : hexDigit (getD b 1 0) ≡ some (c .before .low .given .0 .0) = ap hexDigit (sym (c .before .before .before .before .byte-at2 .ensures)) ∙ sym (c .before .before .before .hex-digit2 .ensures) ∙ ap byteRead (c .before .low .given .1) in
+    let s = hex-small (getD b 0 0) (c .before .before .before .before .before .before .high .given .0 .0) h in
+    let t = hex-small (getD b 1 0) (c .before .low .given .0 .0) l in
+    omega arith
+
+returns-4 : tie.Need-returns-4
+unfolding hashByte
+returns-4 c =
+    let b = c .before .before .before .before .before .before .before .before .before .before .before .before .args .bytes .now in
+    let h : hexDigit (getD b 0 0) ≡ some (c .before .before .before .before .before .before .high .given .0 .0) = ap hexDigit (sym (c .before .before .before .before .before .before .before .before .before .byte-at .ensures)) ∙ sym (c .before .before .before .before .before .before .before .before .hex-digit .ensures) ∙ ap byteRead (c .before .before .before .before .before .before .high .given .1) in
+    let l : hexDigit (getD b 1 0) ≡ some (c .before .low .given .0 .0) = ap hexDigit (sym (c .before .before .before .before .byte-at2 .ensures)) ∙ sym (c .before .before .before .hex-digit2 .ensures) ∙ ap byteRead (c .before .low .given .1) in
+    rw (eq-eqb _ 2 (c .before .before .before .before .before .before .before .before .before .before .if1 .left), h, l)
+
+pub read-hash-spec : {M : Type 1} → statement M
+read-hash-spec =
+    tie.close
+    (tie.spec
+    returns
+    byte-at-requires
+    hex-digit-requires
+    enum-known-high
+    enum-told
+    returns-2
+    byte-at-requires-2
+    hex-digit-requires-2
+    enum-known-low
+    enum-told-2
+    returns-3
+    mul-t7
+    add-t9
+    returns-4)

@@ -1,0 +1,68 @@
+-- Field by field.
+use mathlib.Core.Path.{_≡_, sym, ap, _∙_}
+use mathlib.Core.Option.{Option, none, some}
+use Rattle.trial_lines.specs.Reading.{first, rest, number, wordMost, freshOf}
+use Rattle.trial_lines.specs.Answers.{wordRead}
+use borrow.Author.Needs.{needs}
+use Rattle.trial_lines.proofs.read.read_fresh.Statement.{statement}
+use Rattle.trial_lines.proofs.read.read_fresh.Tie as tie
+
+first-requires : tie.Need-first-requires
+first-requires c κs = search needs
+
+read-word-requires : tie.Need-read-word-requires
+read-word-requires c κs = search needs
+
+enum-known-n : tie.Need-enum-known-n
+enum-known-n c = search needs
+
+enum-told : tie.Need-enum-told
+enum-told c = search needs
+
+returns : tie.Need-returns
+unfolding freshOf
+returns c =
+    let n : number wordMost (first (c .before .before .before .before .before .args .fields .now)) ≡ none = ap (number wordMost) (sym (c .before .before .before .first .ensures)) ∙ sym (c .before .before .read-word .ensures) ∙ ap wordRead (c .enum-told .given .1) in
+    rw n
+
+rest-requires : tie.Need-rest-requires
+rest-requires c κs = search needs
+
+read-word-requires-2 : tie.Need-read-word-requires-2
+read-word-requires-2 c κs = search needs
+
+enum-known-m : tie.Need-enum-known-m
+enum-known-m c = search needs
+
+enum-told-2 : tie.Need-enum-told-2
+enum-told-2 c = search needs
+
+returns-2 : tie.Need-returns-2
+unfolding freshOf
+returns-2 c =
+    let n : number wordMost (first (c .before .before .before .before .before .before .before .before .before .before .args .fields .now)) ≡ some (c .before .before .before .before .before .n .given .0 .0) = ap (number wordMost) (sym (c .before .before .before .before .before .before .before .before .first .ensures)) ∙ sym (c .before .before .before .before .before .before .before .read-word .ensures) ∙ ap wordRead (c .before .before .before .before .before .n .given .1) in
+    let m : number wordMost (rest (c .before .before .before .before .before .before .before .before .before .before .args .fields .now)) ≡ none = ap (number wordMost) (sym (c .before .before .before .rest .ensures)) ∙ sym (c .before .before .read-word2 .ensures) ∙ ap wordRead (c .enum-told2 .given .1) in
+    rw (n, m)
+
+returns-3 : tie.Need-returns-3
+unfolding freshOf
+returns-3 c =
+    let n : number wordMost (first (c .before .before .before .before .before .before .before .before .before .before .before .args .fields .now)) ≡ some (c .before .before .before .before .before .before .n .given .0 .0) = ap (number wordMost) (sym (c .before .before .before .before .before .before .before .before .before .first .ensures)) ∙ sym (c .before .before .before .before .before .before .before .before .read-word .ensures) ∙ ap wordRead (c .before .before .before .before .before .before .n .given .1) in
+    let m : number wordMost (rest (c .before .before .before .before .before .before .before .before .before .before .before .args .fields .now)) ≡ some (c .before .m .given .0 .0) = ap (number wordMost) (sym (c .before .before .before .before .rest .ensures)) ∙ sym (c .before .before .before .read-word2 .ensures) ∙ ap wordRead (c .before .m .given .1) in
+    rw (n, m)
+
+pub read-fresh-spec : {M : Type 1} → statement M
+read-fresh-spec =
+    tie.close
+    (tie.spec
+    first-requires
+    read-word-requires
+    enum-known-n
+    enum-told
+    returns
+    rest-requires
+    read-word-requires-2
+    enum-known-m
+    enum-told-2
+    returns-2
+    returns-3)

@@ -1,0 +1,68 @@
+-- Field by field.
+use mathlib.Core.Path.{_≡_, sym, ap, _∙_}
+use mathlib.Core.Option.{Option, none, some}
+use Rattle.trial_lines.specs.Reading.{first, rest, number, timeMost, timerOf}
+use Rattle.trial_lines.specs.Answers.{timeRead}
+use borrow.Author.Needs.{needs}
+use Rattle.trial_lines.proofs.read.read_timer.Statement.{statement}
+use Rattle.trial_lines.proofs.read.read_timer.Tie as tie
+
+first-requires : tie.Need-first-requires
+first-requires c κs = search needs
+
+read-time-requires : tie.Need-read-time-requires
+read-time-requires c κs = search needs
+
+enum-known-clock : tie.Need-enum-known-clock
+enum-known-clock c = search needs
+
+enum-told : tie.Need-enum-told
+enum-told c = search needs
+
+returns : tie.Need-returns
+unfolding timerOf
+returns c =
+    let n : number timeMost (first (c .before .before .before .before .before .args .fields .now)) ≡ none = ap (number timeMost) (sym (c .before .before .before .first .ensures)) ∙ sym (c .before .before .read-time .ensures) ∙ ap timeRead (c .enum-told .given .1) in
+    rw n
+
+rest-requires : tie.Need-rest-requires
+rest-requires c κs = search needs
+
+read-time-requires-2 : tie.Need-read-time-requires-2
+read-time-requires-2 c κs = search needs
+
+enum-known-retry : tie.Need-enum-known-retry
+enum-known-retry c = search needs
+
+enum-told-2 : tie.Need-enum-told-2
+enum-told-2 c = search needs
+
+returns-2 : tie.Need-returns-2
+unfolding timerOf
+returns-2 c =
+    let n : number timeMost (first (c .before .before .before .before .before .before .before .before .before .before .args .fields .now)) ≡ some (c .before .before .before .before .before .clock .given .0 .0) = ap (number timeMost) (sym (c .before .before .before .before .before .before .before .before .first .ensures)) ∙ sym (c .before .before .before .before .before .before .before .read-time .ensures) ∙ ap timeRead (c .before .before .before .before .before .clock .given .1) in
+    let m : number timeMost (rest (c .before .before .before .before .before .before .before .before .before .before .args .fields .now)) ≡ none = ap (number timeMost) (sym (c .before .before .before .rest .ensures)) ∙ sym (c .before .before .read-time2 .ensures) ∙ ap timeRead (c .enum-told2 .given .1) in
+    rw (n, m)
+
+returns-3 : tie.Need-returns-3
+unfolding timerOf
+returns-3 c =
+    let n : number timeMost (first (c .before .before .before .before .before .before .before .before .before .before .before .args .fields .now)) ≡ some (c .before .before .before .before .before .before .clock .given .0 .0) = ap (number timeMost) (sym (c .before .before .before .before .before .before .before .before .before .first .ensures)) ∙ sym (c .before .before .before .before .before .before .before .before .read-time .ensures) ∙ ap timeRead (c .before .before .before .before .before .before .clock .given .1) in
+    let m : number timeMost (rest (c .before .before .before .before .before .before .before .before .before .before .before .args .fields .now)) ≡ some (c .before .retry .given .0 .0) = ap (number timeMost) (sym (c .before .before .before .before .rest .ensures)) ∙ sym (c .before .before .before .read-time2 .ensures) ∙ ap timeRead (c .before .retry .given .1) in
+    rw (n, m)
+
+pub read-timer-spec : {M : Type 1} → statement M
+read-timer-spec =
+    tie.close
+    (tie.spec
+    first-requires
+    read-time-requires
+    enum-known-clock
+    enum-told
+    returns
+    rest-requires
+    read-time-requires-2
+    enum-known-retry
+    enum-told-2
+    returns-2
+    returns-3)

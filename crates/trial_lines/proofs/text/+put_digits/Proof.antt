@@ -1,0 +1,166 @@
+-- The digits before the last, then the last.
+use native.Mathlib.Omega.{arith}
+use mathlib.Core.List.{[], _∷_, _++_}
+use mathlib.Core.Path.{_≡_, refl}
+use Prim.Native.Nat.{_-_, _/_}
+use Rattle.trial_lines.specs.Writing.{digit, digitsIn}
+use Rattle.trial_lines.proofs.Places.{put-none, put-then, digits-none, digits-last, digits-next}
+use Prim.Native.Nat.{ℕ, _<_}
+use borrow.Fn.Kinds.{In}
+use borrow.Fn.PlainCycle.{Measures, is, falls, and}
+use Rattle.trial_lines.proofs.text.put_digits.Reads as put-digits
+use Rattle.trial_lines.proofs.text.put_digits.Kinds as put-digits-kinds
+use Rattle.trial_lines.proofs.text.+put_digits.Lts-put_digits as put-digits-lts
+use Rattle.trial_lines.proofs.text.digit.Reads as digit-reads
+use Rattle.trial_lines.proofs.text.put.Reads as put-reads
+use Rattle.trial_lines.proofs.text.+put_digits.{statement}
+use Rattle.trial_lines.proofs.text.+put_digits.Tie.{close}
+
+abbrev μ-put-digits : Measures 1 put-digits-kinds.ps ℕ
+μ-put-digits κs a = a .1 .1 .1 .0
+
+abbrev put-digits-at : ℕ → In 1 put-digits-kinds.ps
+put-digits-at t =
+    and 1 put-digits-kinds.ps (is 1 put-digits-kinds.ps μ-put-digits t) put-digits.Pre
+
+abbrev put-digits-below : ℕ → In 1 put-digits-kinds.ps
+put-digits-below t =
+    and 1 put-digits-kinds.ps (falls 1 put-digits-kinds.ps _<_ μ-put-digits t) put-digits.Pre
+
+put-digits-returns : (t : ℕ) → put-digits-lts.Need-returns (
+  digit-reads.Asked,
+  digit-reads.Learnt,
+  put-reads.Asked,
+  put-reads.Learnt,
+  put-digits-below t,
+  put-digits.Post,
+) (put-digits-at t) put-digits.Post
+put-digits-returns t c = rw (digits-none (c .before .before .args .places) (c .before .before .args .n) (c .if1 .taken)) (put-none (c .before .before .args .out .now) (c .before .before .args .at))
+
+put-digits-digit-requires : (t : ℕ) → put-digits-lts.Need-digit-requires (
+  digit-reads.Asked,
+  digit-reads.Learnt,
+  put-reads.Asked,
+  put-reads.Learnt,
+  put-digits-below t,
+  put-digits.Post,
+) (put-digits-at t) put-digits.Post
+put-digits-digit-requires t c κs = tt
+
+put-digits-put-requires : (t : ℕ) → put-digits-lts.Need-put-requires (
+  digit-reads.Asked,
+  digit-reads.Learnt,
+  put-reads.Asked,
+  put-reads.Learnt,
+  put-digits-below t,
+  put-digits.Post,
+) (put-digits-at t) put-digits.Post
+put-digits-put-requires t c κs = tt
+
+put-digits-same-length : (t : ℕ) → put-digits-lts.Need-same-length (
+  digit-reads.Asked,
+  digit-reads.Learnt,
+  put-reads.Asked,
+  put-reads.Learnt,
+  put-digits-below t,
+  put-digits.Post,
+) (put-digits-at t) put-digits.Post
+put-digits-same-length t c = omega arith
+
+put-digits-returns-2 : (t : ℕ) → put-digits-lts.Need-returns-2 (
+  digit-reads.Asked,
+  digit-reads.Learnt,
+  put-reads.Asked,
+  put-reads.Learnt,
+  put-digits-below t,
+  put-digits.Post,
+) (put-digits-at t) put-digits.Post
+put-digits-returns-2 t c =
+    rw (digits-last (c .before .before .before .before .before .before .before .before .args .places) (c .before .before .before .before .before .before .before .before .args .n) (c .before .before .before .before .before .before .if1 .left) (c .before .before .before .before .before .if2 .taken)) (rw (c .before .before .before .digit .ensures) at (c .before .before .put .ensures))
+
+put-digits-sub-put-digits : (t : ℕ) → put-digits-lts.Need-sub-put-digits (
+  digit-reads.Asked,
+  digit-reads.Learnt,
+  put-reads.Asked,
+  put-reads.Learnt,
+  put-digits-below t,
+  put-digits.Post,
+) (put-digits-at t) put-digits.Post
+put-digits-sub-put-digits t c = omega arith
+
+put-digits-put-digits-requires : (t : ℕ) → put-digits-lts.Need-put-digits-requires (
+  digit-reads.Asked,
+  digit-reads.Learnt,
+  put-reads.Asked,
+  put-reads.Learnt,
+  put-digits-below t,
+  put-digits.Post,
+) (put-digits-at t) put-digits.Post
+put-digits-put-digits-requires t c κs = (omega arith, tt)
+
+put-digits-digit-requires-2 : (t : ℕ) → put-digits-lts.Need-digit-requires-2 (
+  digit-reads.Asked,
+  digit-reads.Learnt,
+  put-reads.Asked,
+  put-reads.Learnt,
+  put-digits-below t,
+  put-digits.Post,
+) (put-digits-at t) put-digits.Post
+put-digits-digit-requires-2 t c κs = tt
+
+put-digits-put-requires-2 : (t : ℕ) → put-digits-lts.Need-put-requires-2 (
+  digit-reads.Asked,
+  digit-reads.Learnt,
+  put-reads.Asked,
+  put-reads.Learnt,
+  put-digits-below t,
+  put-digits.Post,
+) (put-digits-at t) put-digits.Post
+put-digits-put-requires-2 t c κs = tt
+
+put-digits-same-length-2 : (t : ℕ) → put-digits-lts.Need-same-length-2 (
+  digit-reads.Asked,
+  digit-reads.Learnt,
+  put-reads.Asked,
+  put-reads.Learnt,
+  put-digits-below t,
+  put-digits.Post,
+) (put-digits-at t) put-digits.Post
+put-digits-same-length-2 t c = omega arith
+
+put-digits-returns-3 : (t : ℕ) → put-digits-lts.Need-returns-3 (
+  digit-reads.Asked,
+  digit-reads.Learnt,
+  put-reads.Asked,
+  put-reads.Learnt,
+  put-digits-below t,
+  put-digits.Post,
+) (put-digits-at t) put-digits.Post
+put-digits-returns-3 t c =
+    let a = c .before .before .before .before .before .before .before .before .before .before .before .before .args in
+    rw (digits-next (a .places) (a .n) (c .before .before .before .before .before .before .before .before .before .before .if1 .left) (c .before .before .before .before .before .before .before .before .before .if2 .left))
+    (put-then (a .out .now) (c .before .before .before .before .before .before .before .put-digits .last .0) (c .before .before .put2 .last .0) (digitsIn (a .places - 1) (a .n / 10)) (digit (a .n) ∷ []) (a .at) (c .before .before .before .before .before .before .before .put-digits .result) (c .before .before .put2 .result)
+    (c .before .before .before .before .before .before .before .put-digits .ensures) (rw (c .before .before .before .digit2 .ensures) at (c .before .before .put2 .ensures)))
+
+pub +put-digits-spec : {M : Type 1} → statement M
++put-digits-spec = close μ-put-digits λ t. put-digits-lts.spec (
+  digit-reads.Asked,
+  digit-reads.Learnt,
+  put-reads.Asked,
+  put-reads.Learnt,
+  put-digits-below t,
+  put-digits.Post,
+)
+    (put-digits-at t)
+    put-digits.Post
+    (put-digits-returns t)
+    (put-digits-digit-requires t)
+    (put-digits-put-requires t)
+    (put-digits-same-length t)
+    (put-digits-returns-2 t)
+    (put-digits-sub-put-digits t)
+    (put-digits-put-digits-requires t)
+    (put-digits-digit-requires-2 t)
+    (put-digits-put-requires-2 t)
+    (put-digits-same-length-2 t)
+    (put-digits-returns-3 t)

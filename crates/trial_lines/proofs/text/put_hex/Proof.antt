@@ -1,0 +1,40 @@
+-- The high digit, then the low one.
+use Prim.Native.Nat.{_/_, _%_}
+use mathlib.Core.List.{[], _∷_, _++_}
+use Rattle.trial_lines.specs.Writing.{hex, hexChar}
+use Rattle.trial_lines.proofs.Places.{put-then}
+use borrow.Author.Needs.{needs}
+use Rattle.trial_lines.proofs.text.put_hex.Statement.{statement}
+use Rattle.trial_lines.proofs.text.put_hex.Tie as tie
+
+hex-char-requires : tie.Need-hex-char-requires
+hex-char-requires c κs = search needs
+
+put-requires : tie.Need-put-requires
+put-requires c κs = search needs
+
+hex-char-requires-2 : tie.Need-hex-char-requires-2
+hex-char-requires-2 c κs = search needs
+
+put-requires-2 : tie.Need-put-requires-2
+put-requires-2 c κs = search needs
+
+same-length : tie.Need-same-length
+same-length c = search needs
+
+returns : tie.Need-returns
+unfolding hex
+returns c =
+    let a = c .before .before .before .before .before .before .before .before .before .before .before .args in
+    put-then (a .out .now) (c .before .before .before .before .before .before .before .put .last .0) (c .before .before .put2 .last .0) (hexChar (a .byte / 16 % 16) ∷ []) (hexChar (a .byte % 16) ∷ []) (a .at) (c .before .before .before .before .before .before .before .put .result) (c .before .before .put2 .result) (rw (c .before .before .before .before .before .before .before .before .hex-char .ensures) at (c .before .before .before .before .before .before .before .put .ensures)) (rw (c .before .before .before .hex-char2 .ensures) at (c .before .before .put2 .ensures))
+
+pub put-hex-spec : {M : Type 1} → statement M
+put-hex-spec =
+    tie.close
+    (tie.spec
+    hex-char-requires
+    put-requires
+    hex-char-requires-2
+    put-requires-2
+    same-length
+    returns)

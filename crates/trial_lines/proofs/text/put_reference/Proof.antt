@@ -1,0 +1,48 @@
+-- NONE_REF is a dash.
+use mathlib.Core.List.{[], _∷_, _++_}
+use mathlib.Core.Path.{_≡_, refl}
+use borrow.Author.Tests.{eq-eqb, ne-eqb}
+use Rattle.rules.specs.Records.{NONE}
+use Rattle.trial_lines.specs.Writing.{reference}
+use Rattle.trial_lines.proofs.Places.{put-then}
+use borrow.Author.Needs.{needs}
+use Rattle.trial_lines.proofs.text.put_reference.Statement.{statement}
+use Rattle.trial_lines.proofs.text.put_reference.Tie as tie
+
+put-requires : tie.Need-put-requires
+put-requires c κs = search needs
+
+put-requires-2 : tie.Need-put-requires-2
+put-requires-2 c κs = search needs
+
+same-length : tie.Need-same-length
+same-length c = search needs
+
+returns : tie.Need-returns
+unfolding reference
+returns c =
+    let a = c .before .before .before .before .before .before .before .before .before .before .before .args in
+    rw (eq-eqb (a .slot .0) NONE (c .before .before .before .before .before .before .before .before .if1 .taken))
+    (put-then (a .out .now) (c .before .before .before .before .before .before .put .last .0) (c .before .before .put2 .last .0) (32 ∷ []) (45 ∷ []) (a .at) (c .before .before .before .before .before .before .put .result) (c .before .before .put2 .result) (c .before .before .before .before .before .before .put .ensures) (c .before .before .put2 .ensures))
+
+put-field-requires : tie.Need-put-field-requires
+put-field-requires c κs = search needs
+
+same-length-2 : tie.Need-same-length-2
+same-length-2 c = search needs
+
+returns-2 : tie.Need-returns-2
+unfolding reference
+returns-2 c = rw (ne-eqb (c .before .before .before .before .before .before .before .args .slot .0) NONE (c .before .before .before .before .if1 .left)) (c .before .before .put-field .ensures)
+
+pub put-reference-spec : {M : Type 1} → statement M
+put-reference-spec =
+    tie.close
+    (tie.spec
+    put-requires
+    put-requires-2
+    same-length
+    returns
+    put-field-requires
+    same-length-2
+    returns-2)

@@ -1,16 +1,11 @@
-// Admission: the new block's head, then the late tails. Port of `on_block_admitted` of src/chain_heads.rs, and admit's added step.
+// Admission: the new block's head, then the late tails. Port of `on_block_admitted` of src/chain_heads.rs.
 ghost use mathlib.Core.Path.{_≡_};
 ghost use Rattle.rules.specs.Records.{tablesOf};
 ghost use Rattle.rules.specs.Admission.{admitted};
 ghost use Rattle.rules.specs.Answers.{slotFound};
-
-pub mod late;
-pub mod place;
-pub mod refresh;
-
-use crate::late::resolve_pending_tails;
-use crate::place::place_head;
-use blocks::adjust_head_ref_count;
+use block_counts::adjust_head_ref_count;
+use head_placement::place_head;
+use late_tails::resolve_pending_tails;
 use rules::BlockSlot;
 use rules::Found;
 

@@ -1,5 +1,147 @@
-// The head table's look-ups, the anchor of a tip and the caches of a head: port of the lower half of src/chain_heads.rs.
-pub mod anchor;
-pub mod caches;
-pub mod order;
-pub mod table;
+// The head table: look-ups, one head as a whole, and which of two tips goes before the other. Port of the lower half of
+// src/chain_heads.rs, with the crates `anchor` to `all_caches`.
+ghost use mathlib.Core.Path.{_≡_};
+ghost use mathlib.Core.Bool.{_&&_};
+ghost use lib.Dec.{eqb};
+ghost use Rattle.rules.specs.Common.{countBelow, isSome, lowest};
+ghost use Rattle.rules.specs.Records.{headsOf, slotsOf, tipAt, used, isConnected, stored, putHead};
+ghost use Rattle.rules.specs.Caches.{slotOfHead};
+ghost use Rattle.rules.specs.Admission.{firstEmpty};
+ghost use Rattle.rules.specs.Answers.{headFound};
+ghost use Rattle.rules.specs.Eviction.{blockBefore};
+use cells::byte_at;
+use cells::hash_at;
+use cells::hash_less;
+use cells::put_byte;
+use cells::put_hash;
+use cells::put_time;
+use cells::put_word;
+use cells::slots;
+use cells::word_at;
+use rules::BlockSlot;
+use rules::FoundHead;
+use rules::Head;
+use rules::HeadSlot;
+
+pub fn is_used(tips: &[u32], head: HeadSlot) -> bool
+    ensures { λ r. ⌜ r ≡ used (now (tips .entry)) (head .0) ⌝ }
+{
+    word_at(tips, head.0) != BlockSlot::NONE_REF
+}
+
+pub fn is_connected(connected: &[u8], head: HeadSlot) -> bool
+    ensures { λ r. ⌜ r ≡ isConnected (now (connected .entry)) (head .0) ⌝ }
+{
+    byte_at(connected, head.0) % 2 == 1
+}
+
+pub fn is_stored(tips: &[u32], connected: &[u8], head: HeadSlot) -> bool
+    ensures { λ r. ⌜ r ≡ stored (now (tips .entry)) (now (connected .entry)) (head .0) ⌝ }
+{
+    if !is_used(tips, head) {
+        return false;
+    }
+    !is_connected(connected, head)
+}
+
+fn has_tip(tips: &[u32], head: HeadSlot, tip: BlockSlot) -> bool
+    ensures { λ r. ⌜ r ≡ (used (now (tips .entry)) (head .0) && eqb (tipAt (now (tips .entry)) (head .0)) (tip .0)) ⌝ }
+{
+    if !is_used(tips, head) {
+        return false;
+    }
+    word_at(tips, head.0) == tip.0
+}
+
+pub fn slot_of_head(tips: &[u32], tip: BlockSlot) -> FoundHead
+    ensures { λ r. ⌜ headFound r ≡ slotOfHead (now (tips .entry)) (tip .0) ⌝ }
+{
+    let m = slots(tips);
+    let mut k: u32 = 0;
+    while k < m {
+        if has_tip(tips, HeadSlot(k), tip) {
+            return FoundHead::At(HeadSlot(k));
+        }
+        k += 1;
+    }
+    FoundHead::Nothing
+}
+
+pub fn first_empty(tips: &[u32]) -> FoundHead
+    ensures { λ r. ⌜ headFound r ≡ firstEmpty (now (tips .entry)) ⌝ }
+{
+    let m = slots(tips);
+    let mut k: u32 = 0;
+    while k < m {
+        if !is_used(tips, HeadSlot(k)) {
+            return FoundHead::At(HeadSlot(k));
+        }
+        k += 1;
+    }
+    FoundHead::Nothing
+}
+
+pub fn count(tips: &[u32]) -> u32
+    ensures { λ r. ⌜ r ≡ countBelow (used (now (tips .entry))) (slotsOf (now (tips .entry))) ⌝ }
+{
+    let m = slots(tips);
+    let mut heads: u32 = 0;
+    let mut k: u32 = 0;
+    while k < m {
+        if is_used(tips, HeadSlot(k)) {
+            heads += 1;
+        }
+        k += 1;
+    }
+    heads
+}
+
+pub fn has_stored_head(tips: &[u32], connected: &[u8]) -> bool
+    ensures { λ r. ⌜ r ≡ isSome (lowest (stored (now (tips .entry)) (now (connected .entry))) (slotsOf (now (tips .entry)))) ⌝ }
+{
+    let m = slots(tips);
+    let mut k: u32 = 0;
+    while k < m {
+        if is_stored(tips, connected, HeadSlot(k)) {
+            return true;
+        }
+        k += 1;
+    }
+    false
+}
+
+pub fn put_head(
+    tips: &mut [u32],
+    tails: &mut [u32],
+    missing: &mut [u8],
+    requested: &mut [u64],
+    arrivals: &mut [u64],
+    connected: &mut [u8],
+    slot: HeadSlot,
+    head: Head,
+)
+    ensures { λ _. ⌜ headsOf (now (tips .exit)) (now (tails .exit)) (now (missing .exit)) (now (requested .exit)) (now (arrivals .exit)) (now (connected .exit))
+        ≡ putHead (headsOf (now (tips .entry)) (now (tails .entry)) (now (missing .entry)) (now (requested .entry)) (now (arrivals .entry)) (now (connected .entry))) (slot .0) head ⌝ }
+{
+    let hash = head.missing;
+    put_word(tips, slot.0, head.tip.0);
+    put_word(tails, slot.0, head.tail.0);
+    put_hash(missing, slot.0, hash);
+    put_time(requested, slot.0, head.requested);
+    put_time(arrivals, slot.0, head.arrival);
+    put_byte(connected, slot.0, head.connected);
+}
+
+pub fn block_before(hashes: &[u8], sequences: &[u32], a: BlockSlot, b: BlockSlot) -> bool
+    ensures { λ r. ⌜ r ≡ blockBefore (now (hashes .entry)) (now (sequences .entry)) (a .0) (b .0) ⌝ }
+{
+    let first = word_at(sequences, a.0);
+    let second = word_at(sequences, b.0);
+    if first < second {
+        return true;
+    }
+    if first != second {
+        return false;
+    }
+    hash_less(hash_at(hashes, a.0), hash_at(hashes, b.0))
+}

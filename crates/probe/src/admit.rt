@@ -30,7 +30,7 @@ pub extern "C" fn probe_insert_head(
         ≡ insertHead (tablesOf (now (hashes .entry)) (now (parents .entry)) (now (sequences .entry)) (now (counts .entry)) (now (flags .entry))
         (now (tips .entry)) (now (tails .entry)) (now (missing .entry)) (now (requested .entry)) (now (arrivals .entry)) (now (connected .entry))) tip arrival arriving (now (previous .entry)) active ⌝ }
 {
-    admission::place::insert_head(
+    head_insertion::insert_head(
         hashes,
         parents,
         sequences,
@@ -71,7 +71,7 @@ pub extern "C" fn probe_resolve_pending_tails(
         ≡ resolveTails (tablesOf (now (hashes .entry)) (now (parents .entry)) (now (sequences .entry)) (now (counts .entry)) (now (flags .entry))
         (now (tips .entry)) (now (tails .entry)) (now (missing .entry)) (now (requested .entry)) (now (arrivals .entry)) (now (connected .entry))) block (now (previous .entry)) ⌝ }
 {
-    admission::late::resolve_pending_tails(
+    late_tails::resolve_pending_tails(
         hashes,
         parents,
         sequences,
@@ -151,7 +151,7 @@ pub extern "C" fn probe_refresh_tails(
         ≡ refreshTails (tablesOf (now (hashes .entry)) (now (parents .entry)) (now (sequences .entry)) (now (counts .entry)) (now (flags .entry))
         (now (tips .entry)) (now (tails .entry)) (now (missing .entry)) (now (requested .entry)) (now (arrivals .entry)) (now (connected .entry))) ⌝ }
 {
-    admission::refresh::refresh_tails(
+    tail_refresh::refresh_tails(
         hashes,
         parents,
         sequences,

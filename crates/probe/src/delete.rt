@@ -12,7 +12,7 @@ pub extern "C" fn probe_recompute_head_ref_counts(
 )
     ensures { λ _. ⌜ now (counts .exit) ≡ recountAll (now (parents .entry)) (now (sequences .entry)) (now (counts .entry)) ⌝ }
 {
-    removal::counts::recompute_head_ref_counts(parents, sequences, counts);
+    recount::recompute_head_ref_counts(parents, sequences, counts);
 }
 
 #[no_mangle]
@@ -37,7 +37,7 @@ pub extern "C" fn probe_on_blocks_deleted(
         (now (tips .entry)) (now (tails .entry)) (now (missing .entry)) (now (requested .entry)) (now (arrivals .entry)) (now (connected .entry)))
         (now (deleted .entry)) reattach ⌝ }
 {
-    removal::deleted::on_blocks_deleted(
+    removal::on_blocks_deleted(
         hashes,
         parents,
         sequences,

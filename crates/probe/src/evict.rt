@@ -1,9 +1,9 @@
 // Eviction.
 ghost use mathlib.Core.Path.{_≡_};
-ghost use Rattle.probe.specs.Numbers.{orNone};
+ghost use Rattle.as_numbers.specs.Numbers.{orNone};
 ghost use Rattle.rules.specs.Records.{tablesOf};
 ghost use Rattle.rules.specs.Eviction.{victim, evictOne};
-use crate::numbers::found_head;
+use as_numbers::found_head;
 use rules::BlockSlot;
 
 #[no_mangle]

@@ -1,36 +1,10 @@
-// The numbers that stand for answers of several modules, and the answer that a number stands for.
+// The number that stands for a request, and the slot that a number stands for.
 ghost use mathlib.Core.Path.{_≡_};
-ghost use Rattle.probe.specs.Numbers.{orNone, yes, anchorNumber, askNumber, slotOrNone};
-ghost use Rattle.rules.specs.Answers.{slotFound, headFound, anchorLocated, askChosen};
+ghost use Rattle.probe.specs.Numbers.{askNumber, slotOrNone};
+ghost use Rattle.rules.specs.Answers.{slotFound, askChosen};
 use rules::BlockSlot;
 use rules::Found;
-use rules::FoundHead;
-use rules::Located;
 use rules::Recovery;
-
-pub fn said(answer: bool) -> u32
-    ensures { λ r. ⌜ r ≡ yes answer ⌝ }
-{
-    if answer { 1 } else { 0 }
-}
-
-pub fn found_head(f: FoundHead) -> u32
-    ensures { λ r. ⌜ r ≡ orNone (headFound f) ⌝ }
-{
-    match f {
-        FoundHead::At(head) => head.0,
-        FoundHead::Nothing => BlockSlot::NONE_REF,
-    }
-}
-
-pub fn anchored(l: Located) -> u64
-    ensures { λ r. ⌜ r ≡ anchorNumber (anchorLocated l) ⌝ }
-{
-    match l {
-        Located::Connection(at) => 4294967296 + at.0 as u64,
-        Located::Tail(at) => at.0 as u64,
-    }
-}
 
 pub fn asked(r: Recovery) -> u64
     ensures { λ answer. ⌜ answer ≡ askNumber (askChosen r) ⌝ }

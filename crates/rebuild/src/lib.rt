@@ -1,26 +1,39 @@
 // Heads made anew from the blocks: port of `rebuild_from_blocks` of src/chain_heads.rs.
 ghost use mathlib.Core.Path.{_≡_};
-ghost use mathlib.Core.Bool.{_&&_};
-ghost use Rattle.rules.specs.Records.{tablesOf, occupied};
-ghost use Rattle.rules.specs.BlockTable.{childless};
+ghost use mathlib.Core.Bool.{true, false, not};
+ghost use lib.ListN.{length};
+ghost use Rattle.rules.specs.Common.{if_then_else_, isSome};
+ghost use Rattle.rules.specs.Records.{tablesOf};
+ghost use Rattle.rules.specs.Admission.{firstEmpty};
 ghost use Rattle.rules.specs.Rebuild.{rebuildAt, rebuildHeads, rebuilt};
-use admission::place::insert_head;
-use blocks::is_occupied;
+ghost use Rattle.named_parents.specs.Named.{namedParents};
 use cells::slots;
-use removal::children::is_childless;
-use removal::counts::recompute_head_ref_counts;
+use head_insertion::insert_head;
+use heads::first_empty;
+use named_parents::is_end;
+use named_parents::name_parents;
+use recount::recompute_head_ref_counts;
 use rules::BlockSlot;
+use rules::FoundHead;
 
-fn is_end(parents: &[u32], sequences: &[u32], slot: BlockSlot) -> bool
-    ensures { λ r. ⌜ r ≡ (occupied (now (sequences .entry)) (slot .0) && childless (now (parents .entry)) (now (sequences .entry)) (slot .0)) ⌝ }
+fn is_full(tips: &[u32]) -> bool
+    ensures { λ r. ⌜ r ≡ not (isSome (firstEmpty (now (tips .entry)))) ⌝ }
 {
-    if !is_occupied(sequences, slot) {
-        return false;
+    match first_empty(tips) {
+        FoundHead::At(_) => false,
+        FoundHead::Nothing => true,
     }
-    is_childless(parents, sequences, slot)
 }
 
-// A childless block becomes a head.
+fn name_again(parents: &[u32], sequences: &[u32], named: &mut [u8], stale: bool)
+    ensures { λ _. ⌜ now (named .exit) ≡ (if stale then namedParents (now (parents .entry)) (now (sequences .entry)) (length (now (named .entry))) else now (named .entry)) ⌝ }
+{
+    if stale {
+        name_parents(parents, sequences, named);
+    }
+}
+
+// A childless block becomes a head. Blocks are freed only where the head table was full.
 fn rebuild_at(
     hashes: &mut [u8],
     parents: &mut [u32],
@@ -33,16 +46,20 @@ fn rebuild_at(
     requested: &mut [u64],
     arrivals: &mut [u64],
     connected: &mut [u8],
+    named: &mut [u8],
     arrival: u64,
     active: BlockSlot,
     slot: BlockSlot,
 )
-    ensures { λ _. ⌜ tablesOf (now (hashes .exit)) (now (parents .exit)) (now (sequences .exit)) (now (counts .exit)) (now (flags .exit))
+    ensures { λ _. ⌜ (now (named .entry) ≡ namedParents (now (parents .entry)) (now (sequences .entry)) (length (now (named .entry)))
+        → (tablesOf (now (hashes .exit)) (now (parents .exit)) (now (sequences .exit)) (now (counts .exit)) (now (flags .exit))
         (now (tips .exit)) (now (tails .exit)) (now (missing .exit)) (now (requested .exit)) (now (arrivals .exit)) (now (connected .exit))
         ≡ rebuildAt arrival (active .0) (slot .0) (tablesOf (now (hashes .entry)) (now (parents .entry)) (now (sequences .entry)) (now (counts .entry)) (now (flags .entry))
-        (now (tips .entry)) (now (tails .entry)) (now (missing .entry)) (now (requested .entry)) (now (arrivals .entry)) (now (connected .entry))) ⌝ }
+        (now (tips .entry)) (now (tails .entry)) (now (missing .entry)) (now (requested .entry)) (now (arrivals .entry)) (now (connected .entry))))
+        × (now (named .exit) ≡ namedParents (now (parents .exit)) (now (sequences .exit)) (length (now (named .entry))))) ⌝ }
 {
-    if is_end(parents, sequences, slot) {
+    if is_end(parents, sequences, named, slot) {
+        let full = is_full(tips);
         let zeros = [0u8; 32];
         insert_head(
             hashes,
@@ -62,6 +79,7 @@ fn rebuild_at(
             &zeros,
             active,
         );
+        name_again(parents, sequences, named, full);
     }
 }
 
@@ -77,6 +95,7 @@ fn rebuild_heads(
     requested: &mut [u64],
     arrivals: &mut [u64],
     connected: &mut [u8],
+    named: &mut [u8],
     arrival: u64,
     active: BlockSlot,
 )
@@ -85,6 +104,7 @@ fn rebuild_heads(
         ≡ rebuildHeads (tablesOf (now (hashes .entry)) (now (parents .entry)) (now (sequences .entry)) (now (counts .entry)) (now (flags .entry))
         (now (tips .entry)) (now (tails .entry)) (now (missing .entry)) (now (requested .entry)) (now (arrivals .entry)) (now (connected .entry))) arrival (active .0) ⌝ }
 {
+    name_parents(parents, sequences, named);
     let n = slots(sequences);
     let mut i: u32 = 0;
     while i < n {
@@ -100,6 +120,7 @@ fn rebuild_heads(
             requested,
             arrivals,
             connected,
+            named,
             arrival,
             active,
             BlockSlot(i),
@@ -128,6 +149,7 @@ pub fn rebuild_from_blocks(
         ≡ rebuilt (tablesOf (now (hashes .entry)) (now (parents .entry)) (now (sequences .entry)) (now (counts .entry)) (now (flags .entry))
         (now (tips .entry)) (now (tails .entry)) (now (missing .entry)) (now (requested .entry)) (now (arrivals .entry)) (now (connected .entry))) arrival (active .0) ⌝ }
 {
+    let mut named = [0u8; 1024];
     rebuild_heads(
         hashes,
         parents,
@@ -140,6 +162,7 @@ pub fn rebuild_from_blocks(
         requested,
         arrivals,
         connected,
+        &mut named,
         arrival,
         active,
     );

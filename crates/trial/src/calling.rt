@@ -57,7 +57,7 @@ fn fresh(
     active: u32,
 ) -> Called {
     let mut out = [0u8; 96];
-    let recorded = calls::restart::fresh_at(
+    let recorded = fresh_call::fresh_at(
         hashes,
         parents,
         sequences,
@@ -101,7 +101,7 @@ fn admit(
     let mut out = [0u8; 96];
     let own = [hash; 32];
     let before = [previous; 32];
-    let answer = calls::admit::admit(
+    let answer = admit_call::admit(
         hashes,
         parents,
         sequences,
@@ -143,7 +143,7 @@ fn promote(
     slot: BlockSlot,
 ) -> Called {
     let mut out = [0u8; 96];
-    let recorded = calls::promote::promote_at(
+    let recorded = promote_call::promote_at(
         hashes,
         parents,
         sequences,
@@ -183,7 +183,7 @@ fn remove(
     slot: BlockSlot,
 ) -> Called {
     let mut out = [0u8; 96];
-    let answer = calls::remove::remove(
+    let answer = remove_call::remove(
         hashes,
         parents,
         sequences,
@@ -222,7 +222,7 @@ fn timer(
     retry: u64,
 ) -> Called {
     let mut out = [0u8; 96];
-    let answer = calls::recovery::timer(
+    let answer = timer_call::timer(
         hashes,
         parents,
         sequences,
@@ -263,7 +263,7 @@ fn restart(
     clock: u64,
 ) -> Called {
     let mut out = [0u8; 96];
-    let answer = calls::restart::restart(
+    let answer = restart_call::restart(
         hashes,
         parents,
         sequences,

@@ -3,34 +3,18 @@ ghost use mathlib.Core.Path.{_≡_};
 ghost use Prim.Native.Nat.{min};
 ghost use lib.ListN.{length};
 ghost use lib.Seq.{sets};
-ghost use Rattle.rules.specs.Answers.{refusalNumber};
 ghost use Rattle.trial_lines.specs.Said.{freshSaid, admitSaid, promoteSaid, removeSaid, timerSaid, restartSaid};
 use crate::lines::letter_line;
 use crate::lines::none_due_line;
 use crate::lines::number_line;
 use crate::lines::request_line;
+use as_numbers::refusal_number;
 use rules::Admitted;
 use rules::BlockSlot;
 use rules::Outcome;
 use rules::Refusal;
 use rules::Removed;
 use rules::Timed;
-
-fn refusal_number(why: Refusal) -> u32
-    ensures { λ r. ⌜ r ≡ refusalNumber why ⌝ }
-{
-    match why {
-        Refusal::Shape => 1,
-        Refusal::HashLength => 2,
-        Refusal::NoBlock => 3,
-        Refusal::ReservedSequence => 4,
-        Refusal::ZeroHash => 5,
-        Refusal::Known => 6,
-        Refusal::Full => 7,
-        Refusal::NotNext => 8,
-        Refusal::HoldsActive => 9,
-    }
-}
 
 // Fresh prints a refusal alone.
 pub fn fresh_line(out: &mut [u8], answer: Outcome) -> usize

@@ -1,0 +1,92 @@
+// An admitted block: it is inserted, then the heads are told.
+ghost use mathlib.Core.Path.{_≡_};
+ghost use Rattle.rules.specs.Hashes.{hashAt};
+ghost use Rattle.rules.specs.Records.{blocksOf, headsOf, tablesOf};
+ghost use Rattle.rules.specs.BlockTable.{findParent, insertAt};
+ghost use Rattle.rules.specs.Admission.{admitted, refreshTails};
+ghost use Rattle.rules.specs.Answers.{slotFound};
+ghost use Rattle.rules.specs.Calls.{newBlock, slotOrNone};
+use admission::on_block_admitted;
+use block_changes::insert_at;
+use blocks::find_parent;
+use cells::hash_at;
+use rules::Block;
+use rules::BlockSlot;
+use rules::Found;
+use rules::Sequence;
+use tail_refresh::refresh_tails;
+
+fn slot_or_none(found: Found) -> BlockSlot
+    ensures { λ r. ⌜ r .0 ≡ slotOrNone (slotFound found) ⌝ }
+{
+    match found {
+        Found::At(slot) => slot,
+        Found::Nothing => BlockSlot(BlockSlot::NONE_REF),
+    }
+}
+
+pub fn admit_at(
+    hashes: &mut [u8],
+    parents: &mut [u32],
+    sequences: &mut [u32],
+    counts: &mut [u8],
+    flags: &mut [u8],
+    tips: &mut [u32],
+    tails: &mut [u32],
+    missing: &mut [u8],
+    requested: &mut [u64],
+    arrivals: &mut [u64],
+    connected: &mut [u8],
+    active: BlockSlot,
+    slot: BlockSlot,
+    sequence: Sequence,
+    own: [u8; 32],
+    previous: &[u8],
+    arrival: u64,
+)
+    ensures { λ _. ⌜ tablesOf (now (hashes .exit)) (now (parents .exit)) (now (sequences .exit)) (now (counts .exit)) (now (flags .exit))
+        (now (tips .exit)) (now (tails .exit)) (now (missing .exit)) (now (requested .exit)) (now (arrivals .exit)) (now (connected .exit))
+        ≡ refreshTails (admitted (record { blocks = insertAt (blocksOf (now (hashes .entry)) (now (parents .entry)) (now (sequences .entry)) (now (counts .entry)) (now (flags .entry))) (slot .0) (newBlock (sequence .0) own (slotOrNone (findParent (now (hashes .entry)) (now (sequences .entry)) (hashAt (now (previous .entry)) 0) (sequence .0)))); heads = headsOf (now (tips .entry)) (now (tails .entry)) (now (missing .entry)) (now (requested .entry)) (now (arrivals .entry)) (now (connected .entry)) }) (slot .0) (findParent (now (hashes .entry)) (now (sequences .entry)) (hashAt (now (previous .entry)) 0) (sequence .0)) (now (previous .entry)) arrival (active .0)) ⌝ }
+{
+    let parent = find_parent(hashes, sequences, hash_at(previous, 0), sequence);
+    let below = slot_or_none(parent);
+    let block = Block {
+        hash: own,
+        parent: below,
+        sequence,
+        count: 0,
+        flags: 0,
+    };
+    insert_at(hashes, parents, sequences, counts, flags, slot, block);
+    on_block_admitted(
+        hashes,
+        parents,
+        sequences,
+        counts,
+        flags,
+        tips,
+        tails,
+        missing,
+        requested,
+        arrivals,
+        connected,
+        slot,
+        parent,
+        previous,
+        arrival,
+        active,
+    );
+    refresh_tails(
+        hashes,
+        parents,
+        sequences,
+        counts,
+        flags,
+        tips,
+        tails,
+        missing,
+        requested,
+        arrivals,
+        connected,
+    );
+}

@@ -1,0 +1,51 @@
+-- An empty head is left alone.
+use mathlib.Core.Path.{_≡_, refl, sym, _∙_}
+use mathlib.Core.Bool.{true, false}
+use Rattle.rules.specs.Records.{used}
+use Rattle.rules.specs.Caches.{recomputeUsed}
+use borrow.Author.Needs.{needs}
+use Rattle.all_caches.proofs.recompute_used.Statement.{statement}
+use Rattle.all_caches.proofs.recompute_used.Tie as tie
+
+is-used-requires : tie.Need-is-used-requires
+is-used-requires c κs = search needs
+
+recompute-alone-requires : tie.Need-recompute-alone-requires
+recompute-alone-requires c κs = search needs
+
+same-length : tie.Need-same-length
+same-length c = search needs
+
+same-length-2 : tie.Need-same-length-2
+same-length-2 c = search needs
+
+same-length-3 : tie.Need-same-length-3
+same-length-3 c = search needs
+
+same-length-4 : tie.Need-same-length-4
+same-length-4 c = search needs
+
+returns : tie.Need-returns
+unfolding recomputeUsed
+returns c =
+    let e : used (c .before .before .before .before .before .before .before .before .before .before .before .before .before .before .before .before .before .before .before .before .before .before .before .args .tips .now) (c .before .before .before .before .before .before .before .before .before .before .before .before .before .before .before .before .before .before .before .before .before .before .before .args .head .0) ≡ true = sym (c .before .before .before .before .before .before .before .before .before .before .before .before .before .before .is-used .ensures) ∙ c .before .before .before .before .before .before .before .before .before .before .before .before .before .if1 .taken in
+    rw e (c .before .before .before .before .before .before .before .before .recompute-alone .ensures)
+
+returns-2 : tie.Need-returns-2
+unfolding recomputeUsed
+returns-2 c =
+    let e : used (c .before .before .before .before .before .before .before .before .before .before .args .tips .now) (c .before .before .before .before .before .before .before .before .before .before .args .head .0) ≡ false = sym (c .before .is-used .ensures) ∙ c .if1 .left in
+    rw e
+
+pub recompute-used-spec : {M : Type 1} → statement M
+recompute-used-spec =
+    tie.close
+    (tie.spec
+    is-used-requires
+    recompute-alone-requires
+    same-length
+    same-length-2
+    same-length-3
+    same-length-4
+    returns
+    returns-2)

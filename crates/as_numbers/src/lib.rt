@@ -1,0 +1,90 @@
+// The numbers that stand for answers: a refusal's, NONE_REF for none, 1 and 0 for yes and no.
+ghost use mathlib.Core.Path.{_≡_};
+ghost use Rattle.rules.specs.Records.{statusNumber};
+ghost use Rattle.rules.specs.Answers.{refusalNumber, slotFound, headFound, countGot, statusGot, anchorLocated};
+ghost use Rattle.as_numbers.specs.Numbers.{orNone, yes, anchorNumber};
+use rules::BlockSlot;
+use rules::BlockStatus;
+use rules::Counted;
+use rules::Found;
+use rules::FoundHead;
+use rules::Located;
+use rules::Refusal;
+use rules::StatusFound;
+
+pub fn refusal_number(why: Refusal) -> u32
+    ensures { λ r. ⌜ r ≡ refusalNumber why ⌝ }
+{
+    match why {
+        Refusal::Shape => 1,
+        Refusal::HashLength => 2,
+        Refusal::NoBlock => 3,
+        Refusal::ReservedSequence => 4,
+        Refusal::ZeroHash => 5,
+        Refusal::Known => 6,
+        Refusal::Full => 7,
+        Refusal::NotNext => 8,
+        Refusal::HoldsActive => 9,
+    }
+}
+
+pub fn said(answer: bool) -> u32
+    ensures { λ r. ⌜ r ≡ yes answer ⌝ }
+{
+    if answer { 1 } else { 0 }
+}
+
+pub fn found(f: Found) -> u32
+    ensures { λ r. ⌜ r ≡ orNone (slotFound f) ⌝ }
+{
+    match f {
+        Found::At(slot) => slot.0,
+        Found::Nothing => BlockSlot::NONE_REF,
+    }
+}
+
+pub fn found_head(f: FoundHead) -> u32
+    ensures { λ r. ⌜ r ≡ orNone (headFound f) ⌝ }
+{
+    match f {
+        FoundHead::At(head) => head.0,
+        FoundHead::Nothing => BlockSlot::NONE_REF,
+    }
+}
+
+pub fn counted(c: Counted) -> u32
+    ensures { λ r. ⌜ r ≡ orNone (countGot c) ⌝ }
+{
+    match c {
+        Counted::Count(count) => count as u32,
+        Counted::Nothing => BlockSlot::NONE_REF,
+    }
+}
+
+fn status_number(s: BlockStatus) -> u32
+    ensures { λ r. ⌜ r ≡ statusNumber s ⌝ }
+{
+    match s {
+        BlockStatus::Stored => 0,
+        BlockStatus::Connected => 1,
+        BlockStatus::Active => 2,
+    }
+}
+
+pub fn status_found(f: StatusFound) -> u32
+    ensures { λ r. ⌜ r ≡ orNone (statusGot f) ⌝ }
+{
+    match f {
+        StatusFound::Status(s) => status_number(s),
+        StatusFound::Nothing => BlockSlot::NONE_REF,
+    }
+}
+
+pub fn anchored(l: Located) -> u64
+    ensures { λ r. ⌜ r ≡ anchorNumber (anchorLocated l) ⌝ }
+{
+    match l {
+        Located::Connection(at) => 4294967296 + at.0 as u64,
+        Located::Tail(at) => at.0 as u64,
+    }
+}

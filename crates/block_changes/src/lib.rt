@@ -1,0 +1,81 @@
+// A block inserted, deleted, or given its parent.
+ghost use mathlib.Core.Path.{_≡_};
+ghost use Rattle.rules.specs.Records.{blocksOf, occupied, putBlock};
+ghost use Rattle.rules.specs.BlockTable.{delete as deleteRule, insertAt, resolveParent};
+use blocks::is_occupied;
+use cells::put_byte;
+use cells::put_hash;
+use cells::put_word;
+use cells::slots;
+use rules::Block;
+use rules::BlockSlot;
+
+fn put_block(
+    hashes: &mut [u8],
+    parents: &mut [u32],
+    sequences: &mut [u32],
+    counts: &mut [u8],
+    flags: &mut [u8],
+    slot: BlockSlot,
+    block: Block,
+)
+    ensures { λ _. ⌜ blocksOf (now (hashes .exit)) (now (parents .exit)) (now (sequences .exit)) (now (counts .exit)) (now (flags .exit))
+        ≡ putBlock (blocksOf (now (hashes .entry)) (now (parents .entry)) (now (sequences .entry)) (now (counts .entry)) (now (flags .entry))) (slot .0) block ⌝ }
+{
+    let hash = block.hash;
+    put_hash(hashes, slot.0, hash);
+    put_word(parents, slot.0, block.parent.0);
+    put_word(sequences, slot.0, block.sequence.0);
+    put_byte(counts, slot.0, block.count);
+    put_byte(flags, slot.0, block.flags);
+}
+
+pub fn insert_at(
+    hashes: &mut [u8],
+    parents: &mut [u32],
+    sequences: &mut [u32],
+    counts: &mut [u8],
+    flags: &mut [u8],
+    slot: BlockSlot,
+    block: Block,
+)
+    ensures { λ _. ⌜ blocksOf (now (hashes .exit)) (now (parents .exit)) (now (sequences .exit)) (now (counts .exit)) (now (flags .exit))
+        ≡ insertAt (blocksOf (now (hashes .entry)) (now (parents .entry)) (now (sequences .entry)) (now (counts .entry)) (now (flags .entry))) (slot .0) block ⌝ }
+{
+    if slot.0 < slots(sequences) {
+        put_block(hashes, parents, sequences, counts, flags, slot, block);
+    }
+}
+
+pub fn delete(
+    hashes: &mut [u8],
+    parents: &mut [u32],
+    sequences: &mut [u32],
+    counts: &mut [u8],
+    flags: &mut [u8],
+    slot: BlockSlot,
+) -> bool
+    ensures { λ r. ⌜ (r ≡ occupied (now (sequences .entry)) (slot .0))
+        × (blocksOf (now (hashes .exit)) (now (parents .exit)) (now (sequences .exit)) (now (counts .exit)) (now (flags .exit))
+        ≡ deleteRule (blocksOf (now (hashes .entry)) (now (parents .entry)) (now (sequences .entry)) (now (counts .entry)) (now (flags .entry))) (slot .0)) ⌝ }
+{
+    if !is_occupied(sequences, slot) {
+        return false;
+    }
+    put_block(
+        hashes,
+        parents,
+        sequences,
+        counts,
+        flags,
+        slot,
+        Block::empty(),
+    );
+    true
+}
+
+pub fn resolve_parent_ref(parents: &mut [u32], slot: BlockSlot, parent: BlockSlot)
+    ensures { λ _. ⌜ now (parents .exit) ≡ resolveParent (now (parents .entry)) (slot .0) (parent .0) ⌝ }
+{
+    put_word(parents, slot.0, parent.0);
+}

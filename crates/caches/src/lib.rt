@@ -1,0 +1,92 @@
+// The caches of a head: flag, anchor, missing hash and request time, from the walk of its tip.
+ghost use mathlib.Core.Path.{_≡_};
+ghost use Rattle.rules.specs.Caches.{cachesOf, connectionKept, tailKept, recompute};
+use anchor::locate_anchor;
+use block_flags::with_bit0;
+use cells::byte_at;
+use cells::put_byte;
+use cells::put_hash;
+use cells::put_time;
+use cells::put_word;
+use cells::word_at;
+use missing_hashes::knowing;
+use missing_hashes::missing_hash;
+use rules::BlockSlot;
+use rules::HeadSlot;
+use rules::Located;
+
+fn keep_connection(
+    tails: &mut [u32],
+    missing: &mut [u8],
+    requested: &mut [u64],
+    connected: &mut [u8],
+    head: HeadSlot,
+    at: BlockSlot,
+)
+    ensures { λ _. ⌜ cachesOf (now (tails .exit)) (now (missing .exit)) (now (requested .exit)) (now (connected .exit))
+        ≡ connectionKept (cachesOf (now (tails .entry)) (now (missing .entry)) (now (requested .entry)) (now (connected .entry))) (head .0) (at .0) ⌝ }
+{
+    let bits = with_bit0(byte_at(connected, head.0), true);
+    put_word(tails, head.0, at.0);
+    put_hash(missing, head.0, [0u8; 32]);
+    put_time(requested, head.0, 0);
+    put_byte(connected, head.0, bits);
+}
+
+fn keep_tail(
+    tips: &[u32],
+    tails: &mut [u32],
+    missing: &mut [u8],
+    requested: &[u64],
+    connected: &mut [u8],
+    head: HeadSlot,
+    at: BlockSlot,
+    arriving: BlockSlot,
+    previous: &[u8],
+)
+    ensures { λ _. ⌜ cachesOf (now (tails .exit)) (now (missing .exit)) (now (requested .entry)) (now (connected .exit))
+        ≡ tailKept (now (tips .entry)) (cachesOf (now (tails .entry)) (now (missing .entry)) (now (requested .entry)) (now (connected .entry))) (head .0) (at .0) (arriving .0) (now (previous .entry)) ⌝ }
+{
+    let bits = with_bit0(byte_at(connected, head.0), false);
+    put_word(tails, head.0, at.0);
+    put_byte(connected, head.0, bits);
+    let known = knowing(tips, tails, connected, at, head);
+    let hash = missing_hash(previous, missing, at, arriving, known);
+    put_hash(missing, head.0, hash);
+}
+
+pub fn recompute_caches(
+    parents: &[u32],
+    sequences: &[u32],
+    flags: &[u8],
+    tips: &[u32],
+    tails: &mut [u32],
+    missing: &mut [u8],
+    requested: &mut [u64],
+    connected: &mut [u8],
+    head: HeadSlot,
+    arriving: BlockSlot,
+    previous: &[u8],
+)
+    ensures { λ _. ⌜ cachesOf (now (tails .exit)) (now (missing .exit)) (now (requested .exit)) (now (connected .exit))
+        ≡ recompute (now (parents .entry)) (now (sequences .entry)) (now (flags .entry)) (now (tips .entry))
+        (cachesOf (now (tails .entry)) (now (missing .entry)) (now (requested .entry)) (now (connected .entry))) (head .0) (arriving .0) (now (previous .entry)) ⌝ }
+{
+    let tip = BlockSlot(word_at(tips, head.0));
+    match locate_anchor(parents, sequences, flags, tip) {
+        Located::Connection(at) => keep_connection(tails, missing, requested, connected, head, at),
+        Located::Tail(at) => {
+            keep_tail(
+                tips,
+                tails,
+                missing,
+                requested,
+                connected,
+                head,
+                at,
+                arriving,
+                previous,
+            )
+        }
+    }
+}

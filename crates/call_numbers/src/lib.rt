@@ -1,0 +1,90 @@
+// The numbers that stand for the answers of the calls.
+ghost use mathlib.Core.Path.{_≡_};
+ghost use Prim.Native.Nat.{_*_};
+ghost use Rattle.rules.specs.Answers.{refusalNumber, outcomeSaid, admittedSaid, removedSaid, timedSaid, deadlineSaid, spanGiven};
+ghost use Rattle.call_numbers.specs.Numbers.{answerNumber, claimedTo, wantedTo, timeTo, spanFrom};
+use as_numbers::refusal_number;
+use cells::put_hash;
+use cells::put_time;
+use cells::put_word;
+use rules::Admitted;
+use rules::BlockSlot;
+use rules::DeadlineAnswer;
+use rules::Outcome;
+use rules::Refusal;
+use rules::Removed;
+use rules::Span;
+use rules::Timed;
+
+fn refusal(why: Refusal) -> u64
+    ensures { λ r. ⌜ r ≡ refusalNumber why * 4294967296 ⌝ }
+{
+    refusal_number(why) as u64 * 4294967296
+}
+
+pub fn outcome_number(outcome: Outcome) -> u64
+    ensures { λ r. ⌜ r ≡ answerNumber (outcomeSaid outcome) ⌝ }
+{
+    match outcome {
+        Outcome::Done => 0,
+        Outcome::Refused(why) => refusal(why),
+    }
+}
+
+pub fn admitted_number(admitted: Admitted) -> u64
+    ensures { λ r. ⌜ r ≡ answerNumber (admittedSaid admitted) ⌝ }
+{
+    match admitted {
+        Admitted::Slot(slot) => slot.0 as u64,
+        Admitted::Refused(why) => refusal(why),
+    }
+}
+
+pub fn removed_number(removed: Removed) -> u64
+    ensures { λ r. ⌜ r ≡ answerNumber (removedSaid removed) ⌝ }
+{
+    match removed {
+        Removed::Freed(blocks) => blocks as u64,
+        Removed::Refused(why) => refusal(why),
+    }
+}
+
+// The head, its claimed sequence and its missing hash.
+pub fn timed_number(timed: Timed, hash: [u8; 32], claimed: &mut [u32], wanted: &mut [u8]) -> u64
+    ensures { λ r. ⌜ (r ≡ answerNumber (timedSaid timed hash))
+        × ((now (claimed .exit) ≡ claimedTo (timedSaid timed hash) (now (claimed .entry)))
+        × (now (wanted .exit) ≡ wantedTo (timedSaid timed hash) (now (wanted .entry)))) ⌝ }
+{
+    match timed {
+        Timed::Request(head, claims) => {
+            put_word(claimed, 0, claims.0);
+            put_hash(wanted, 0, hash);
+            head.0 as u64
+        }
+        Timed::NoneDue => BlockSlot::NONE_REF as u64,
+        Timed::Refused(why) => refusal(why),
+    }
+}
+
+pub fn deadline_number(deadline: DeadlineAnswer, time: &mut [u64]) -> u64
+    ensures { λ r. ⌜ (r ≡ answerNumber (deadlineSaid deadline))
+        × (now (time .exit) ≡ timeTo (deadlineSaid deadline) (now (time .entry))) ⌝ }
+{
+    match deadline {
+        DeadlineAnswer::At(due) => {
+            put_time(time, 0, due);
+            1
+        }
+        DeadlineAnswer::Never => 0,
+        DeadlineAnswer::Refused(why) => refusal(why),
+    }
+}
+
+pub fn span_from(given: u32, span: u64) -> Span
+    ensures { λ r. ⌜ spanGiven r ≡ spanFrom given span ⌝ }
+{
+    if given == 0 {
+        return Span::Unset;
+    }
+    Span::Ticks(span)
+}

@@ -1,3 +1,0 @@
-pub mod Filling
-pub mod Replies
-pub mod Empties

@@ -1,0 +1,88 @@
+-- What is left to free.
+use borrow.Author.Needs.{needs}
+use native.Mathlib.Omega.{arith}
+use Prim.Native.Nat.{_≤_, _-_, _+_}
+use mathlib.Core.Path.{_≡_, refl, sym, ap, _∙_}
+use lib.ListN.{length, drop}
+use Rattle.rules.specs.Records.{blocksOf}
+use Rattle.rules.specs.Removal.{freeAll}
+use Rattle.rules.proofs.Freed.{free-next, free-end}
+use Rattle.freeing.proofs.free_all.Statement.{statement}
+use Rattle.freeing.proofs.free_all.Tie as tie
+
+abbrev Inv-loop : tie.InvT-loop
+Inv-loop hashes₀ parents₀ sequences₀ counts₀ flags₀ deleted k₀ hashes parents sequences counts flags k =
+    (k ≤ length deleted) × (((length hashes ≡ length hashes₀) × ((length parents ≡ length parents₀) × ((length sequences ≡ length sequences₀) × ((length counts ≡ length counts₀) × (length flags ≡ length flags₀))))) × (freeAll (drop k deleted) (blocksOf hashes parents sequences counts flags) ≡ freeAll deleted (blocksOf hashes₀ parents₀ sequences₀ counts₀ flags₀)))
+
+abbrev μ-loop : tie.MeasureT-loop
+μ-loop hashes₀ parents₀ sequences₀ counts₀ flags₀ deleted k₀ hashes parents sequences counts flags k = length deleted - k
+
+loop-holds : tie.Need-loop-holds Inv-loop μ-loop
+loop-holds c = (omega arith, ((refl, (refl, (refl, (refl, refl)))), refl))
+
+mul-t8 : tie.Need-mul-t8 Inv-loop μ-loop
+mul-t8 c = omega arith
+
+shared-slice-read-t21 : tie.Need-shared-slice-read-t21 Inv-loop μ-loop
+shared-slice-read-t21 c = omega arith
+
+delete-requires : tie.Need-delete-requires Inv-loop μ-loop
+delete-requires c κs = search needs
+
+add-k : tie.Need-add-k Inv-loop μ-loop
+add-k c = omega arith
+
+loop-less : tie.Need-loop-less Inv-loop μ-loop
+loop-less c = omega arith
+
+loop-again : tie.Need-loop-again Inv-loop μ-loop
+loop-again c =
+    let u = c .before .before .before .before .before .before .before .before .before .before .delete in
+    let l = c .before .before .before .before .before .before .before .before .before .before .before .before .before .before .before .before .before .before .loop in
+    let b = blocksOf (l .hashes) (l .parents) (l .sequences) (l .counts) (l .flags) in (
+      omega arith,
+      (
+        (u .kept .0 ∙ l .inv .1 .0 .0, (u .kept .1 .0 ∙ l .inv .1 .0 .1 .0, (u .kept .1 .1 .0 ∙ l .inv .1 .0 .1 .1 .0, (u .kept .1 .1 .1 .0 ∙ l .inv .1 .0 .1 .1 .1 .0, u .kept .1 .1 .1 .1 .0 ∙ l .inv .1 .0 .1 .1 .1 .1)))),
+        ap (freeAll (drop (l .k + 1) (c .before .before .before .before .before .before .before .before .before .before .before .before .before .before .before .before .before .before .before .before .before .before .before .before .before .args .deleted .now))) (u .ensures .1) ∙ sym (free-next (c .before .before .before .before .before .before .before .before .before .before .before .before .before .before .before .before .before .before .before .before .before .before .before .before .before .args .deleted .now) (l .k) b (omega arith)) ∙ l .inv .1 .1,
+      ),
+    )
+
+same-length : tie.Need-same-length Inv-loop μ-loop
+same-length c = c .before .loop .inv .1 .0 .0
+
+same-length-2 : tie.Need-same-length-2 Inv-loop μ-loop
+same-length-2 c = c .before .loop .inv .1 .0 .1 .0
+
+same-length-3 : tie.Need-same-length-3 Inv-loop μ-loop
+same-length-3 c = c .before .loop .inv .1 .0 .1 .1 .0
+
+same-length-4 : tie.Need-same-length-4 Inv-loop μ-loop
+same-length-4 c = c .before .loop .inv .1 .0 .1 .1 .1 .0
+
+same-length-5 : tie.Need-same-length-5 Inv-loop μ-loop
+same-length-5 c = c .before .loop .inv .1 .0 .1 .1 .1 .1
+
+returns : tie.Need-returns Inv-loop μ-loop
+returns c =
+    let l = c .before .loop in
+    sym (free-end (c .before .before .before .before .before .before .before .before .args .deleted .now) (l .k) (blocksOf (l .hashes) (l .parents) (l .sequences) (l .counts) (l .flags)) (omega arith)) ∙ l .inv .1 .1
+
+pub free-all-spec : {M : Type 1} → statement M
+free-all-spec =
+    tie.close
+    (tie.spec
+    Inv-loop
+    μ-loop
+    loop-holds
+    mul-t8
+    shared-slice-read-t21
+    delete-requires
+    add-k
+    loop-less
+    loop-again
+    same-length
+    same-length-2
+    same-length-3
+    same-length-4
+    same-length-5
+    returns)

@@ -1,0 +1,71 @@
+-- By whether a slot is empty.
+use mathlib.Core.Path.{_≡_, refl, sym, ap, _∙_}
+use mathlib.Core.Option.{Option, none, some}
+use Rattle.rules.specs.Answers.{headFound}
+use Rattle.rules.specs.Admission.{seatHead}
+use borrow.Author.Needs.{needs}
+use Rattle.head_insertion.proofs.seat_head.Statement.{statement}
+use Rattle.head_insertion.proofs.seat_head.Tie as tie
+
+first-empty-requires : tie.Need-first-empty-requires
+first-empty-requires c κs = search needs
+
+enum-told : tie.Need-enum-told
+enum-told c = search needs
+
+enum-known-slot : tie.Need-enum-known-slot
+enum-known-slot c = search needs
+
+seat-at-requires : tie.Need-seat-at-requires
+seat-at-requires c κs = search needs
+
+same-length : tie.Need-same-length
+same-length c = search needs
+
+returns : tie.Need-returns
+unfolding seatHead
+returns c =
+    let f = sym (c .before .before .first-empty .ensures) ∙ ap headFound (c .enum-told .given .1) in
+    rw (f, seatHead)
+
+same-length-2 : tie.Need-same-length-2
+same-length-2 c = c .before .before .before .before .before .before .before .before .before .before .before .before .seat-at .kept .1 .1 .1 .0
+
+same-length-3 : tie.Need-same-length-3
+same-length-3 c = c .before .before .before .before .before .before .before .before .before .before .before .before .seat-at .kept .1 .1 .1 .1 .0
+
+same-length-4 : tie.Need-same-length-4
+same-length-4 c = c .before .before .before .before .before .before .before .before .before .before .before .before .seat-at .kept .1 .1 .1 .1 .1 .0
+
+same-length-5 : tie.Need-same-length-5
+same-length-5 c = c .before .before .before .before .before .before .before .before .before .before .before .before .seat-at .kept .1 .1 .1 .1 .1 .1 .0
+
+same-length-6 : tie.Need-same-length-6
+same-length-6 c = c .before .before .before .before .before .before .before .before .before .before .before .before .seat-at .kept .1 .1 .1 .1 .1 .1 .1 .0
+
+same-length-7 : tie.Need-same-length-7
+same-length-7 c = c .before .before .before .before .before .before .before .before .before .before .before .before .seat-at .kept .1 .1 .1 .1 .1 .1 .1 .1 .0
+
+returns-2 : tie.Need-returns-2
+unfolding seatHead
+returns-2 c =
+    let f = sym (c .before .before .before .before .before .before .before .before .before .before .before .before .before .before .before .before .before .before .before .before .before .before .first-empty .ensures) ∙ ap headFound (c .before .before .before .before .before .before .before .before .before .before .before .before .before .before .before .before .before .before .before .before .slot .given .1) in
+    rw (f, seatHead) (rw (c .before .before .before .before .before .before .before .before .before .before .before .before .seat-at .ensures))
+
+pub seat-head-spec : {M : Type 1} → statement M
+seat-head-spec =
+    tie.close
+    (tie.spec
+    first-empty-requires
+    enum-told
+    enum-known-slot
+    seat-at-requires
+    same-length
+    returns
+    same-length-2
+    same-length-3
+    same-length-4
+    same-length-5
+    same-length-6
+    same-length-7
+    returns-2)

@@ -1,0 +1,61 @@
+-- None of the heads before `k` is stored.
+use borrow.Author.Needs.{needs}
+use native.Mathlib.Omega.{arith}
+use Prim.Native.Nat.{ℕ, _≤_, _-_}
+use mathlib.Core.Path.{_≡_, sym, _∙_}
+use mathlib.Core.Option.{Option, none, some}
+use Rattle.rules.specs.Common.{lowest, isSome}
+use Rattle.rules.specs.Records.{stored, slotsOf}
+use Rattle.rules.proofs.Search.{lowest-none, lowest-next, lowest-at}
+use Rattle.heads.proofs.has_stored_head.Statement.{statement}
+use Rattle.heads.proofs.has_stored_head.Tie as tie
+
+abbrev Inv-loop : tie.InvT-loop
+Inv-loop tips connected m k₀ k = (k ≤ m) × (lowest (stored tips connected) k ≡ none)
+
+abbrev μ-loop : tie.MeasureT-loop
+μ-loop tips connected m k₀ k = m - k
+
+slots-requires : tie.Need-slots-requires Inv-loop μ-loop
+slots-requires c κs = search needs
+
+loop-holds : tie.Need-loop-holds Inv-loop μ-loop
+loop-holds c = (omega arith, lowest-none _)
+
+is-stored-requires : tie.Need-is-stored-requires Inv-loop μ-loop
+is-stored-requires c κs = search needs
+
+returns : tie.Need-returns Inv-loop μ-loop
+returns c =
+    let e : lowest (stored (c .before .before .before .before .before .before .before .args .tips .now) (c .before .before .before .before .before .before .before .args .connected .now)) (slotsOf (c .before .before .before .before .before .before .before .args .tips .now)) ≡ some (c .before .before .before .loop .k) =
+    lowest-at _ (c .before .before .before .loop .k) _ (c .before .before .before .loop .inv .1) (sym (c .before .is-stored .ensures) ∙ c .if1 .taken) (omega (arith, c .before .before .before .before .slots .ensures)) in
+    rw e
+
+add-k : tie.Need-add-k Inv-loop μ-loop
+add-k c = omega arith
+
+loop-less : tie.Need-loop-less Inv-loop μ-loop
+loop-less c = omega arith
+
+loop-again : tie.Need-loop-again Inv-loop μ-loop
+loop-again c = (omega arith, lowest-next _ (c .before .before .before .loop .k) (c .before .before .before .loop .inv .1) (sym (c .before .is-stored .ensures) ∙ c .if1 .left))
+
+returns-2 : tie.Need-returns-2 Inv-loop μ-loop
+returns-2 c =
+    let e : c .before .loop .k ≡ c .before .before .slots .result = omega arith in
+    rw (← c .before .before .slots .ensures, ← e, c .before .loop .inv .1)
+
+pub has-stored-head-spec : {M : Type 1} → statement M
+has-stored-head-spec =
+    tie.close
+    (tie.spec
+    Inv-loop
+    μ-loop
+    slots-requires
+    loop-holds
+    is-stored-requires
+    returns
+    add-k
+    loop-less
+    loop-again
+    returns-2)

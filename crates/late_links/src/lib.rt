@@ -1,0 +1,276 @@
+// Late tails: blocks that waited for the new one are linked to it.
+ghost use mathlib.Core.Path.{_≡_};
+ghost use Prim.Native.Nat.{suc};
+ghost use lib.Dec.{eqb};
+ghost use lib.IntN.{pos};
+ghost use Rattle.rules.specs.Records.{headsOf, tablesOf};
+ghost use Rattle.rules.specs.BlockTable.{adjustCounts};
+ghost use Rattle.rules.specs.Admission.{misses as missesRule, late, joined as joinedRule, link as linkRule, linkLate, linkTails};
+use block_changes::resolve_parent_ref;
+use block_counts::adjust_head_ref_count;
+use blocks::is_occupied;
+use cells::hash_at;
+use cells::same_hash;
+use cells::slots;
+use cells::word_at;
+use heads::is_stored;
+use heads::put_head;
+use heads::slot_of_head;
+use rules::BlockSlot;
+use rules::FoundHead;
+use rules::Head;
+use rules::HeadSlot;
+use rules::Sequence;
+
+pub fn misses(
+    tips: &[u32],
+    tails: &[u32],
+    missing: &[u8],
+    requested: &[u64],
+    arrivals: &[u64],
+    connected: &[u8],
+    hash: [u8; 32],
+    head: HeadSlot,
+) -> bool
+    ensures { λ r. ⌜ r ≡ missesRule (headsOf (now (tips .entry)) (now (tails .entry)) (now (missing .entry)) (now (requested .entry)) (now (arrivals .entry)) (now (connected .entry))) hash (head .0) ⌝ }
+{
+    if !is_stored(tips, connected, head) {
+        return false;
+    }
+    same_hash(hash_at(missing, head.0), hash)
+}
+
+fn is_late(
+    hashes: &[u8],
+    parents: &[u32],
+    sequences: &[u32],
+    counts: &[u8],
+    flags: &[u8],
+    tips: &[u32],
+    tails: &[u32],
+    missing: &[u8],
+    requested: &[u64],
+    arrivals: &[u64],
+    connected: &[u8],
+    block: BlockSlot,
+    hash: [u8; 32],
+    sequence: Sequence,
+    head: HeadSlot,
+) -> bool
+    ensures { λ r. ⌜ r ≡ late (tablesOf (now (hashes .entry)) (now (parents .entry)) (now (sequences .entry)) (now (counts .entry)) (now (flags .entry))
+        (now (tips .entry)) (now (tails .entry)) (now (missing .entry)) (now (requested .entry)) (now (arrivals .entry)) (now (connected .entry))) (block .0) hash (sequence .0) (head .0) ⌝ }
+{
+    if !misses(
+        tips,
+        tails,
+        missing,
+        requested,
+        arrivals,
+        connected,
+        hash,
+        head,
+    ) {
+        return false;
+    }
+    let tail = word_at(tails, head.0);
+    if tail == block.0 {
+        return false;
+    }
+    if !is_occupied(sequences, BlockSlot(tail)) {
+        return false;
+    }
+    if word_at(parents, tail) != BlockSlot::NONE_REF {
+        return false;
+    }
+    comes_after(word_at(sequences, tail), sequence)
+}
+
+fn comes_after(higher: u32, lower: Sequence) -> bool
+    ensures { λ r. ⌜ r ≡ eqb higher (suc (lower .0)) ⌝ }
+{
+    if higher == 0 {
+        return false;
+    }
+    higher - 1 == lower.0
+}
+
+// The new block's own head is emptied if it has one, else it counts one more.
+fn join(
+    hashes: &[u8],
+    parents: &[u32],
+    sequences: &[u32],
+    counts: &mut [u8],
+    flags: &[u8],
+    tips: &mut [u32],
+    tails: &mut [u32],
+    missing: &mut [u8],
+    requested: &mut [u64],
+    arrivals: &mut [u64],
+    connected: &mut [u8],
+    block: BlockSlot,
+)
+    ensures { λ _. ⌜ tablesOf (now (hashes .entry)) (now (parents .entry)) (now (sequences .entry)) (now (counts .exit)) (now (flags .entry))
+        (now (tips .exit)) (now (tails .exit)) (now (missing .exit)) (now (requested .exit)) (now (arrivals .exit)) (now (connected .exit))
+        ≡ joinedRule (tablesOf (now (hashes .entry)) (now (parents .entry)) (now (sequences .entry)) (now (counts .entry)) (now (flags .entry))
+        (now (tips .entry)) (now (tails .entry)) (now (missing .entry)) (now (requested .entry)) (now (arrivals .entry)) (now (connected .entry))) (block .0) ⌝ }
+{
+    match slot_of_head(tips, block) {
+        FoundHead::At(own) => put_head(
+            tips,
+            tails,
+            missing,
+            requested,
+            arrivals,
+            connected,
+            own,
+            Head::empty(),
+        ),
+        FoundHead::Nothing => count_child(sequences, counts, block),
+    }
+}
+
+fn count_child(sequences: &[u32], counts: &mut [u8], block: BlockSlot)
+    ensures { λ _. ⌜ now (counts .exit) ≡ adjustCounts (now (sequences .entry)) (now (counts .entry)) (block .0) (pos 1) ⌝ }
+{
+    adjust_head_ref_count(sequences, counts, block, 1);
+}
+
+fn link(
+    hashes: &[u8],
+    parents: &mut [u32],
+    sequences: &[u32],
+    counts: &mut [u8],
+    flags: &[u8],
+    tips: &mut [u32],
+    tails: &mut [u32],
+    missing: &mut [u8],
+    requested: &mut [u64],
+    arrivals: &mut [u64],
+    connected: &mut [u8],
+    block: BlockSlot,
+    head: HeadSlot,
+)
+    ensures { λ _. ⌜ tablesOf (now (hashes .entry)) (now (parents .exit)) (now (sequences .entry)) (now (counts .exit)) (now (flags .entry))
+        (now (tips .exit)) (now (tails .exit)) (now (missing .exit)) (now (requested .exit)) (now (arrivals .exit)) (now (connected .exit))
+        ≡ linkRule (tablesOf (now (hashes .entry)) (now (parents .entry)) (now (sequences .entry)) (now (counts .entry)) (now (flags .entry))
+        (now (tips .entry)) (now (tails .entry)) (now (missing .entry)) (now (requested .entry)) (now (arrivals .entry)) (now (connected .entry))) (block .0) (head .0) ⌝ }
+{
+    let tail = BlockSlot(word_at(tails, head.0));
+    resolve_parent_ref(parents, tail, block);
+    join(
+        hashes,
+        parents,
+        sequences,
+        counts,
+        flags,
+        tips,
+        tails,
+        missing,
+        requested,
+        arrivals,
+        connected,
+        block,
+    );
+}
+
+fn link_late(
+    hashes: &[u8],
+    parents: &mut [u32],
+    sequences: &[u32],
+    counts: &mut [u8],
+    flags: &[u8],
+    tips: &mut [u32],
+    tails: &mut [u32],
+    missing: &mut [u8],
+    requested: &mut [u64],
+    arrivals: &mut [u64],
+    connected: &mut [u8],
+    block: BlockSlot,
+    hash: [u8; 32],
+    sequence: Sequence,
+    head: HeadSlot,
+)
+    ensures { λ _. ⌜ tablesOf (now (hashes .entry)) (now (parents .exit)) (now (sequences .entry)) (now (counts .exit)) (now (flags .entry))
+        (now (tips .exit)) (now (tails .exit)) (now (missing .exit)) (now (requested .exit)) (now (arrivals .exit)) (now (connected .exit))
+        ≡ linkLate (block .0) hash (sequence .0) (head .0) (tablesOf (now (hashes .entry)) (now (parents .entry)) (now (sequences .entry)) (now (counts .entry)) (now (flags .entry))
+        (now (tips .entry)) (now (tails .entry)) (now (missing .entry)) (now (requested .entry)) (now (arrivals .entry)) (now (connected .entry))) ⌝ }
+{
+    if is_late(
+        hashes,
+        parents,
+        sequences,
+        counts,
+        flags,
+        tips,
+        tails,
+        missing,
+        requested,
+        arrivals,
+        connected,
+        block,
+        hash,
+        sequence,
+        head,
+    ) {
+        link(
+            hashes,
+            parents,
+            sequences,
+            counts,
+            flags,
+            tips,
+            tails,
+            missing,
+            requested,
+            arrivals,
+            connected,
+            block,
+            head,
+        );
+    }
+}
+
+pub fn link_tails(
+    hashes: &[u8],
+    parents: &mut [u32],
+    sequences: &[u32],
+    counts: &mut [u8],
+    flags: &[u8],
+    tips: &mut [u32],
+    tails: &mut [u32],
+    missing: &mut [u8],
+    requested: &mut [u64],
+    arrivals: &mut [u64],
+    connected: &mut [u8],
+    block: BlockSlot,
+    hash: [u8; 32],
+    sequence: Sequence,
+)
+    ensures { λ _. ⌜ tablesOf (now (hashes .entry)) (now (parents .exit)) (now (sequences .entry)) (now (counts .exit)) (now (flags .entry))
+        (now (tips .exit)) (now (tails .exit)) (now (missing .exit)) (now (requested .exit)) (now (arrivals .exit)) (now (connected .exit))
+        ≡ linkTails (tablesOf (now (hashes .entry)) (now (parents .entry)) (now (sequences .entry)) (now (counts .entry)) (now (flags .entry))
+        (now (tips .entry)) (now (tails .entry)) (now (missing .entry)) (now (requested .entry)) (now (arrivals .entry)) (now (connected .entry))) (block .0) hash (sequence .0) ⌝ }
+{
+    let m = slots(tips);
+    let mut k: u32 = 0;
+    while k < m {
+        link_late(
+            hashes,
+            parents,
+            sequences,
+            counts,
+            flags,
+            tips,
+            tails,
+            missing,
+            requested,
+            arrivals,
+            connected,
+            block,
+            hash,
+            sequence,
+            HeadSlot(k),
+        );
+        k += 1;
+    }
+}

@@ -1,0 +1,8 @@
+// What a call that sets the record returns.
+use rules::Outcome;
+
+// The answer, and what the record then holds.
+pub struct Recorded {
+    pub outcome: Outcome,
+    pub active: u32,
+}

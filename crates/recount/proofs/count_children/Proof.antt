@@ -1,0 +1,58 @@
+-- The slots before `i` are done.
+use borrow.Author.Needs.{needs}
+use native.Mathlib.Omega.{arith}
+use Prim.Native.Nat.{_≤_, _-_}
+use mathlib.Core.Path.{_≡_, refl, sym, _∙_}
+use lib.ListN.{length}
+use Rattle.rules.specs.Common.{inOrder}
+use Rattle.rules.proofs.Search.{in-order-none, in-order-next}
+use Rattle.recount.specs.Passes.{countChild}
+use Rattle.recount.proofs.count_children.Statement.{statement}
+use Rattle.recount.proofs.count_children.Tie as tie
+
+abbrev Inv-loop : tie.InvT-loop
+Inv-loop parents sequences counts₀ n i₀ counts i = (i ≤ n) × ((length counts ≡ length counts₀) × (counts ≡ inOrder (countChild parents sequences) i counts₀))
+
+abbrev μ-loop : tie.MeasureT-loop
+μ-loop parents sequences counts₀ n i₀ counts i = n - i
+
+slots-requires : tie.Need-slots-requires Inv-loop μ-loop
+slots-requires c κs = search needs
+
+loop-holds : tie.Need-loop-holds Inv-loop μ-loop
+loop-holds c = (omega arith, (refl, sym (in-order-none _ _)))
+
+count-child-requires : tie.Need-count-child-requires Inv-loop μ-loop
+count-child-requires c κs = search needs
+
+add-i : tie.Need-add-i Inv-loop μ-loop
+add-i c = omega arith
+
+loop-less : tie.Need-loop-less Inv-loop μ-loop
+loop-less c = omega arith
+
+loop-again : tie.Need-loop-again Inv-loop μ-loop
+loop-again c = (omega arith, (c .before .before .count-child .kept .1 .1 .0 ∙ c .before .before .before .before .before .loop .inv .1 .0, c .before .before .count-child .ensures ∙ rw (c .before .before .before .before .before .loop .inv .1 .1, in-order-next)))
+
+same-length : tie.Need-same-length Inv-loop μ-loop
+same-length c = c .before .loop .inv .1 .0
+
+returns : tie.Need-returns Inv-loop μ-loop
+returns c =
+    let e : c .before .loop .i ≡ c .before .before .slots .result = omega arith in
+    rw (← c .before .before .slots .ensures, ← e) (c .before .loop .inv .1 .1)
+
+pub count-children-spec : {M : Type 1} → statement M
+count-children-spec =
+    tie.close
+    (tie.spec
+    Inv-loop
+    μ-loop
+    slots-requires
+    loop-holds
+    count-child-requires
+    add-i
+    loop-less
+    loop-again
+    same-length
+    returns)

@@ -1,0 +1,31 @@
+-- The three passes in turn.
+use mathlib.Core.Path.{_∙_}
+use Rattle.recount.proofs.Recount.{three-passes}
+use borrow.Author.Needs.{needs}
+use Rattle.recount.proofs.recompute_head_ref_counts.Statement.{statement}
+use Rattle.recount.proofs.recompute_head_ref_counts.Tie as tie
+
+clear-counts-requires : tie.Need-clear-counts-requires
+clear-counts-requires c κs = search needs
+
+count-children-requires : tie.Need-count-children-requires
+count-children-requires c κs = search needs
+
+raise-counts-requires : tie.Need-raise-counts-requires
+raise-counts-requires c κs = search needs
+
+same-length : tie.Need-same-length
+same-length c = search needs
+
+returns : tie.Need-returns
+returns c = c .before .before .raise-counts .ensures ∙ rw (c .before .before .before .before .before .before .count-children .ensures, c .before .before .before .before .before .before .before .before .before .before .clear-counts .ensures) (three-passes (c .before .before .before .before .before .before .before .before .before .before .before .before .before .before .before .args .parents .now) (c .before .before .before .before .before .before .before .before .before .before .before .before .before .before .before .args .sequences .now) (c .before .before .before .before .before .before .before .before .before .before .before .before .before .before .before .args .counts .now))
+
+pub recompute-head-ref-counts-spec : {M : Type 1} → statement M
+recompute-head-ref-counts-spec =
+    tie.close
+    (tie.spec
+    clear-counts-requires
+    count-children-requires
+    raise-counts-requires
+    same-length
+    returns)

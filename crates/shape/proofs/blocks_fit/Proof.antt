@@ -1,0 +1,41 @@
+-- Each length in turn.
+use native.Mathlib.Omega.{arith}
+use Prim.Native.Nat.{_*_}
+use borrow.Author.Tests.{eq-eqb, ne-eqb}
+use lib.ListN.{length}
+use Rattle.rules.specs.Calls.{blocksFit}
+use Rattle.shape.proofs.blocks_fit.Statement.{statement}
+use Rattle.shape.proofs.blocks_fit.Tie as tie
+
+returns : tie.Need-returns
+unfolding blocksFit
+returns c =
+    let p = c .before .args in
+    rw (ne-eqb (length (p .hashes .now)) ((length (p .parents .now)) * 32) (λ q. c .if1 .taken (omega (arith, q))))
+
+returns-2 : tie.Need-returns-2
+unfolding blocksFit
+returns-2 c =
+    let p = c .before .before .args in
+    rw (ne-eqb (length (p .hashes .now)) ((length (p .parents .now)) * 32) (λ q. c .if2 .taken (omega (arith, q))))
+
+returns-3 : tie.Need-returns-3
+unfolding blocksFit
+returns-3 c =
+    let p = c .before .before .before .args in
+    rw (eq-eqb (length (p .hashes .now)) ((length (p .parents .now)) * 32) (omega (arith, c .before .before .if1 .left, c .before .if2 .left)), ne-eqb _ _ (c .if3 .taken))
+
+returns-4 : tie.Need-returns-4
+unfolding blocksFit
+returns-4 c =
+    let p = c .before .before .before .before .args in
+    rw (eq-eqb (length (p .hashes .now)) ((length (p .parents .now)) * 32) (omega (arith, c .before .before .before .if1 .left, c .before .before .if2 .left)), eq-eqb _ _ (c .before .if3 .left), ne-eqb _ _ (c .if4 .taken))
+
+returns-5 : tie.Need-returns-5
+unfolding blocksFit
+returns-5 c =
+    let p = c .before .before .before .before .args in
+    rw (eq-eqb (length (p .hashes .now)) ((length (p .parents .now)) * 32) (omega (arith, c .before .before .before .if1 .left, c .before .before .if2 .left)), eq-eqb _ _ (c .before .if3 .left), eq-eqb _ _ (c .if4 .left))
+
+pub blocks-fit-spec : {M : Type 1} → statement M
+blocks-fit-spec = tie.close (tie.spec returns returns-2 returns-3 returns-4 returns-5)

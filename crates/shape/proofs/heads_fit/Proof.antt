@@ -1,0 +1,45 @@
+-- Each length in turn.
+use native.Mathlib.Omega.{arith}
+use Prim.Native.Nat.{_*_}
+use borrow.Author.Tests.{eq-eqb, ne-eqb}
+use lib.ListN.{length}
+use Rattle.rules.specs.Calls.{headsFit}
+use Rattle.shape.proofs.heads_fit.Statement.{statement}
+use Rattle.shape.proofs.heads_fit.Tie as tie
+
+returns : tie.Need-returns
+unfolding headsFit
+returns c = rw (ne-eqb _ _ (c .if1 .taken))
+
+returns-2 : tie.Need-returns-2
+unfolding headsFit
+returns-2 c =
+    let p = c .before .before .args in
+    rw (eq-eqb _ _ (c .before .if1 .left), ne-eqb (length (p .missing .now)) ((length (p .tips .now)) * 32) (λ q. c .if2 .taken (omega (arith, q))))
+
+returns-3 : tie.Need-returns-3
+unfolding headsFit
+returns-3 c =
+    let p = c .before .before .before .args in
+    rw (eq-eqb _ _ (c .before .before .if1 .left), ne-eqb (length (p .missing .now)) ((length (p .tips .now)) * 32) (λ q. c .if3 .taken (omega (arith, q))))
+
+returns-4 : tie.Need-returns-4
+unfolding headsFit
+returns-4 c =
+    let p = c .before .before .before .before .args in
+    rw (eq-eqb _ _ (c .before .before .before .if1 .left), eq-eqb (length (p .missing .now)) ((length (p .tips .now)) * 32) (omega (arith, c .before .before .if2 .left, c .before .if3 .left)), ne-eqb _ _ (c .if4 .taken))
+
+returns-5 : tie.Need-returns-5
+unfolding headsFit
+returns-5 c =
+    let p = c .before .before .before .before .before .args in
+    rw (eq-eqb _ _ (c .before .before .before .before .if1 .left), eq-eqb (length (p .missing .now)) ((length (p .tips .now)) * 32) (omega (arith, c .before .before .before .if2 .left, c .before .before .if3 .left)), eq-eqb _ _ (c .before .if4 .left), ne-eqb _ _ (c .if5 .taken))
+
+returns-6 : tie.Need-returns-6
+unfolding headsFit
+returns-6 c =
+    let p = c .before .before .before .before .before .args in
+    rw (eq-eqb _ _ (c .before .before .before .before .if1 .left), eq-eqb (length (p .missing .now)) ((length (p .tips .now)) * 32) (omega (arith, c .before .before .before .if2 .left, c .before .before .if3 .left)), eq-eqb _ _ (c .before .if4 .left), eq-eqb _ _ (c .if5 .left))
+
+pub heads-fit-spec : {M : Type 1} → statement M
+heads-fit-spec = tie.close (tie.spec returns returns-2 returns-3 returns-4 returns-5 returns-6)

@@ -1,0 +1,57 @@
+use mathlib.Core.Path.{_≡_, refl, sym, ap, _∙_}
+use mathlib.Core.Option.{Option, none, some}
+use Rattle.rules.specs.Records.{blocksOf}
+use Rattle.rules.specs.BlockTable.{get}
+use Rattle.rules.specs.declared.Block.{Block}
+use borrow.Author.Needs.{needs}
+use Rattle.station.proofs.look.station_get.Statement.{statement}
+use Rattle.station.proofs.look.station_get.Tie as tie
+
+get-requires : tie.Need-get-requires
+get-requires c κs = search needs
+
+put-hash-requires : tie.Need-put-hash-requires
+put-hash-requires c κs = search needs
+
+cast-put-words : tie.Need-cast-put-words
+cast-put-words c = search needs
+
+cast-put-words-2 : tie.Need-cast-put-words-2
+cast-put-words-2 c = search needs
+
+put-words-requires : tie.Need-put-words-requires
+put-words-requires c κs = search needs
+
+same-length : tie.Need-same-length
+same-length c = search needs
+
+same-length-2 : tie.Need-same-length-2
+same-length-2 c = search needs
+
+returns : tie.Need-returns
+returns c =
+    let a = c .before .before .before .before .before .before .before .before .before .before .before .before .before .before .before .before .before .before .before .args in
+    let b = blocksOf (a .hashes .now) (a .parents .now) (a .sequences .now) (a .counts .now) (a .flags .now) in
+    let e : some (c .before .before .before .before .before .before .before .before .before .before .before .get .result .block) ≡ get b (a .slot) = rw (c .before .before .before .before .before .before .before .before .before .before .if1 .taken) at (c .before .before .before .before .before .before .before .before .before .before .before .get .ensures) in
+    rw (← e) (refl, (c .before .before .before .before .before .before .put-hash .ensures, c .before .before .put-words .ensures))
+
+returns-2 : tie.Need-returns-2
+returns-2 c =
+    let a = c .before .before .before .before .before .before .before .before .before .args in
+    let b = blocksOf (a .hashes .now) (a .parents .now) (a .sequences .now) (a .counts .now) (a .flags .now) in
+    let e : none ≡ get b (a .slot) = rw (c .if1 .left) at (c .before .get .ensures) in
+    rw (← e) (refl, (refl, refl))
+
+pub station-get-spec : {M : Type 1} → statement M
+station-get-spec =
+    tie.close
+    (tie.spec
+    get-requires
+    put-hash-requires
+    cast-put-words
+    cast-put-words-2
+    put-words-requires
+    same-length
+    same-length-2
+    returns
+    returns-2)

@@ -1,0 +1,44 @@
+use mathlib.Core.Path.{_≡_, ap, _∙_}
+use Rattle.call_numbers.specs.Numbers.{answerNumber}
+use borrow.Author.Needs.{needs}
+use Rattle.station.proofs.record.promote_kept.Statement.{statement}
+use Rattle.station.proofs.record.promote_kept.Tie as tie
+use Rattle.station.proofs.record.promote_kept.Reads as reads
+use Rattle.station.proofs.record.promote_kept.Lts as lts
+
+promote-at-requires : tie.Need-promote-at-requires
+promote-at-requires c κs = search needs
+
+outcome-number-requires : tie.Need-outcome-number-requires
+outcome-number-requires c κs = search needs
+
+same-length : tie.Need-same-length
+same-length c = search needs
+
+same-length-2 : tie.Need-same-length-2
+same-length-2 c = search needs
+
+same-length-3 : tie.Need-same-length-3
+same-length-3 c = search needs
+
+same-length-4 : tie.Need-same-length-4
+same-length-4 c = search needs
+
+same-length-5 : tie.Need-same-length-5
+same-length-5 c = search needs
+
+returns : tie.Need-returns
+returns c = (c .outcome-number .ensures ∙ ap answerNumber (c .before .before .before .before .before .before .before .before .before .before .before .promote-at .ensures .0), (c .before .before .before .before .before .before .before .before .before .before .before .promote-at .ensures .1 .0, c .before .before .before .before .before .before .before .before .before .before .before .promote-at .ensures .1 .1))
+
+pub promote-kept-spec : {M : Type 1} → statement M
+promote-kept-spec =
+    tie.close
+    (tie.spec
+    promote-at-requires
+    outcome-number-requires
+    same-length
+    same-length-2
+    same-length-3
+    same-length-4
+    same-length-5
+    returns)

@@ -1,0 +1,74 @@
+// Looking at the heads, and the rank of a branch.
+ghost use mathlib.Core.Path.{_≡_};
+ghost use Rattle.as_numbers.specs.Numbers.{orNone, yes, anchorNumber};
+ghost use Rattle.rules.specs.Common.{countBelow, isSome, lowest};
+ghost use Rattle.rules.specs.Hashes.{hashAt};
+ghost use Rattle.rules.specs.Records.{slotsOf, used, stored};
+ghost use Rattle.rules.specs.Anchor.{locateAnchor};
+ghost use Rattle.rules.specs.Caches.{slotOfHead};
+ghost use Rattle.rules.specs.Rank.{outranks};
+use as_numbers::anchored;
+use as_numbers::found_head;
+use as_numbers::said;
+use branch_value::Rank;
+use cells::hash_at;
+use rules::BlockSlot;
+
+#[no_mangle]
+pub extern "C" fn station_count(tips: &[u32]) -> u32
+    ensures { λ r. ⌜ r ≡ countBelow (used (now (tips .entry))) (slotsOf (now (tips .entry))) ⌝ }
+{
+    heads::count(tips)
+}
+
+#[no_mangle]
+pub extern "C" fn station_has_stored_head(tips: &[u32], connected: &[u8]) -> u32
+    ensures { λ r. ⌜ r ≡ yes (isSome (lowest (stored (now (tips .entry)) (now (connected .entry))) (slotsOf (now (tips .entry))))) ⌝ }
+{
+    said(heads::has_stored_head(tips, connected))
+}
+
+#[no_mangle]
+pub extern "C" fn station_slot_of_head(tips: &[u32], tip: u32) -> u32
+    ensures { λ r. ⌜ r ≡ orNone (slotOfHead (now (tips .entry)) tip) ⌝ }
+{
+    found_head(heads::slot_of_head(tips, BlockSlot(tip)))
+}
+
+#[no_mangle]
+pub extern "C" fn station_locate_anchor(
+    parents: &[u32],
+    sequences: &[u32],
+    flags: &[u8],
+    start: u32,
+) -> u64
+    ensures { λ r. ⌜ r ≡ anchorNumber (locateAnchor (now (parents .entry)) (now (sequences .entry)) (now (flags .entry)) start) ⌝ }
+{
+    anchored(anchor::locate_anchor(parents, sequences, flags, BlockSlot(start)))
+}
+
+#[no_mangle]
+pub extern "C" fn station_outranks(
+    value: u64,
+    len: u16,
+    hash: &[u8],
+    value2: u64,
+    len2: u16,
+    hash2: &[u8],
+) -> u32
+    ensures { λ r. ⌜ r ≡ yes (outranks (record { value = value; length = len; hash = hashAt (now (hash .entry)) 0 }) (record { value = value2; length = len2; hash = hashAt (now (hash2 .entry)) 0 })) ⌝ }
+{
+    let mine = hash_at(hash, 0);
+    let theirs = hash_at(hash2, 0);
+    let first = Rank {
+        value,
+        len,
+        hash: mine,
+    };
+    let second = Rank {
+        value: value2,
+        len: len2,
+        hash: theirs,
+    };
+    said(first.outranks(second))
+}

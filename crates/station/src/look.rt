@@ -1,0 +1,134 @@
+// Looking at the blocks.
+ghost use mathlib.Core.Path.{_≡_};
+ghost use lib.ListN.{length};
+ghost use mathlib.Core.List.{[], _∷_};
+ghost use lib.Seq.{sets};
+ghost use Rattle.as_numbers.specs.Numbers.{orNone, yes};
+ghost use Rattle.station.specs.Blocks.{isThere, hashGot, wordsGot};
+ghost use Rattle.rules.specs.Hashes.{hashAt};
+ghost use Rattle.rules.specs.Records.{blocksOf};
+ghost use Rattle.rules.specs.BlockTable.{find, nextFree, findParent, get, headRefCount, statusAt, markSubtree, walksToActiveChain};
+use as_numbers::counted;
+use as_numbers::found;
+use as_numbers::said;
+use as_numbers::status_found;
+use rules::BlockSlot;
+use rules::Sequence;
+
+fn put_words(words: &mut [u32], a: u32, b: u32, c: u32, d: u32)
+    ensures { λ _. ⌜ now (words .exit) ≡ sets (now (words .entry)) 0 (a ∷ b ∷ c ∷ d ∷ []) ⌝ }
+{
+    cells::put_word(words, 0, a);
+    cells::put_word(words, 1, b);
+    cells::put_word(words, 2, c);
+    cells::put_word(words, 3, d);
+}
+
+#[no_mangle]
+pub extern "C" fn station_find(hashes: &[u8], sequences: &[u32], sequence: u32, hash: &[u8]) -> u32
+    ensures { λ r. ⌜ r ≡ orNone (find (now (hashes .entry)) (now (sequences .entry)) sequence (hashAt (now (hash .entry)) 0)) ⌝ }
+{
+    found(blocks::find(
+        hashes,
+        sequences,
+        Sequence(sequence),
+        cells::hash_at(hash, 0),
+    ))
+}
+
+#[no_mangle]
+pub extern "C" fn station_next_free_index(sequences: &[u32]) -> u32
+    ensures { λ r. ⌜ r ≡ orNone (nextFree (now (sequences .entry))) ⌝ }
+{
+    found(blocks::next_free_index(sequences))
+}
+
+#[no_mangle]
+pub extern "C" fn station_find_parent(
+    hashes: &[u8],
+    sequences: &[u32],
+    previous: &[u8],
+    sequence: u32,
+) -> u32
+    ensures { λ r. ⌜ r ≡ orNone (findParent (now (hashes .entry)) (now (sequences .entry)) (hashAt (now (previous .entry)) 0) sequence) ⌝ }
+{
+    found(blocks::find_parent(
+        hashes,
+        sequences,
+        cells::hash_at(previous, 0),
+        Sequence(sequence),
+    ))
+}
+
+#[no_mangle]
+pub extern "C" fn station_get(
+    hashes: &[u8],
+    parents: &[u32],
+    sequences: &[u32],
+    counts: &[u8],
+    flags: &[u8],
+    slot: u32,
+    hash: &mut [u8],
+    words: &mut [u32],
+) -> u32
+    ensures { λ r. ⌜ (r ≡ isThere (get (blocksOf (now (hashes .entry)) (now (parents .entry)) (now (sequences .entry)) (now (counts .entry)) (now (flags .entry))) slot))
+        × ((now (hash .exit) ≡ hashGot (get (blocksOf (now (hashes .entry)) (now (parents .entry)) (now (sequences .entry)) (now (counts .entry)) (now (flags .entry))) slot) (now (hash .entry)))
+        × (now (words .exit) ≡ wordsGot (get (blocksOf (now (hashes .entry)) (now (parents .entry)) (now (sequences .entry)) (now (counts .entry)) (now (flags .entry))) slot) (now (words .entry)))) ⌝ }
+{
+    let got = block_reading::get(hashes, parents, sequences, counts, flags, BlockSlot(slot));
+    if got.there {
+        let block = got.block;
+        let bytes = block.hash;
+        cells::put_hash(hash, 0, bytes);
+        let count = block.count;
+        let bits = block.flags;
+        put_words(
+            words,
+            block.parent.0,
+            block.sequence.0,
+            count as u32,
+            bits as u32,
+        );
+        return 1;
+    }
+    0
+}
+
+#[no_mangle]
+pub extern "C" fn station_head_ref_count(sequences: &[u32], counts: &[u8], slot: u32) -> u32
+    ensures { λ r. ⌜ r ≡ orNone (headRefCount (now (sequences .entry)) (now (counts .entry)) slot) ⌝ }
+{
+    counted(block_reading::head_ref_count(sequences, counts, BlockSlot(slot)))
+}
+
+#[no_mangle]
+pub extern "C" fn station_status(sequences: &[u32], flags: &[u8], slot: u32) -> u32
+    ensures { λ r. ⌜ r ≡ orNone (statusAt (now (sequences .entry)) (now (flags .entry)) slot) ⌝ }
+{
+    status_found(block_reading::status(sequences, flags, BlockSlot(slot)))
+}
+
+#[no_mangle]
+pub extern "C" fn station_mark_subtree(
+    parents: &[u32],
+    sequences: &[u32],
+    root: u32,
+    out: &mut [u32],
+) -> u32
+    ensures { λ r. ⌜ (r ≡ length (markSubtree (now (parents .entry)) (now (sequences .entry)) root))
+        × (now (out .exit) ≡ sets (now (out .entry)) 0 (markSubtree (now (parents .entry)) (now (sequences .entry)) root)) ⌝ }
+{
+    subtree::mark_subtree(parents, sequences, BlockSlot(root), out)
+}
+
+#[no_mangle]
+pub extern "C" fn station_walks_to_active_chain(
+    parents: &[u32],
+    sequences: &[u32],
+    flags: &[u8],
+    start: u32,
+) -> u32
+    ensures { λ r. ⌜ r ≡ yes (walksToActiveChain (now (parents .entry)) (now (sequences .entry)) (now (flags .entry)) start) ⌝ }
+{
+    said(blocks::walks_to_active_chain(parents, sequences, flags, BlockSlot(start)))
+}

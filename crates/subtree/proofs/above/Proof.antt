@@ -1,0 +1,52 @@
+-- Each test as the rule has it.
+use borrow.Author.Needs.{needs}
+use mathlib.Core.Path.{_≡_, sym, _∙_}
+use mathlib.Core.Bool.{true, false}
+use borrow.Author.Tests.{eq-eqb, ne-eqb, not-true, not-false}
+use Rattle.rules.specs.Records.{occupied}
+use Rattle.subtree.specs.Known.{above}
+use Rattle.subtree.proofs.above.Statement.{statement}
+use Rattle.subtree.proofs.above.Tie as tie
+
+returns : tie.Need-returns
+unfolding above
+returns c = rw (eq-eqb _ _ (c .if1 .taken))
+
+byte-at-requires : tie.Need-byte-at-requires
+byte-at-requires c κs = search needs
+
+returns-2 : tie.Need-returns-2
+unfolding above
+returns-2 c = rw (ne-eqb _ _ (c .before .before .if1 .left), ne-eqb _ _ (λ q. c .if2 .taken (c .before .byte-at .ensures ∙ q)))
+
+is-occupied-requires : tie.Need-is-occupied-requires
+is-occupied-requires c κs = search needs
+
+returns-3 : tie.Need-returns-3
+unfolding above
+returns-3 c =
+    let b = c .before .before .before in
+    let o : occupied (b .before .before .before .before .before .before .args .sequences .now) (b .before .before .before .before .before .before .args .slot) ≡ false = sym (c .before .is-occupied .ensures) ∙ not-true (c .before .is-occupied .result) (c .if3 .taken) in
+    rw (ne-eqb _ _ (b .before .if1 .left), eq-eqb _ _ (sym (b .byte-at .ensures) ∙ c .before .before .if2 .left), o)
+
+word-at-requires : tie.Need-word-at-requires
+word-at-requires c κs = search needs
+
+returns-4 : tie.Need-returns-4
+unfolding above
+returns-4 c =
+    let b = c .before .before .before .before in
+    let o : occupied (b .before .before .before .before .before .before .args .sequences .now) (b .before .before .before .before .before .before .args .slot) ≡ true = sym (c .before .before .is-occupied .ensures) ∙ not-false (c .before .before .is-occupied .result) (c .before .if3 .left) in
+    rw (ne-eqb _ _ (b .before .if1 .left), eq-eqb _ _ (sym (b .byte-at .ensures) ∙ c .before .before .before .if2 .left), o) (c .word-at .ensures)
+
+pub above-spec : {M : Type 1} → statement M
+above-spec =
+    tie.close
+    (tie.spec
+    returns
+    byte-at-requires
+    returns-2
+    is-occupied-requires
+    returns-3
+    word-at-requires
+    returns-4)

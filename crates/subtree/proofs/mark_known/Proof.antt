@@ -1,0 +1,132 @@
+-- The slots before `i` of the subtree are listed, and what is remembered is right.
+use borrow.Author.Needs.{needs}
+use native.Mathlib.Omega.{arith}
+use Prim.Native.Nat.{ℕ, _≤_, _<_, _-_, _+_}
+use mathlib.Core.Path.{_≡_, refl, sym, _∙_, ap}
+use mathlib.Core.Logic.{⊎-elim}
+use mathlib.Core.List.{List, [], _∷_, _++_}
+use native.Mathlib.Nat.{zero-add}
+use lib.ListN.{length, length-append}
+use lib.Seq.{sets}
+use Rattle.rules.specs.Common.{allBelow}
+use Rattle.rules.specs.Records.{slotsOf}
+use Rattle.rules.specs.BlockTable.{inSubtree, markSubtree}
+use Rattle.rules.proofs.Search.{all-none, all-passes, all-fails}
+use Rattle.rules.proofs.Cells.{sets-append}
+use Rattle.subtree.specs.Known.{Right}
+use Rattle.subtree.proofs.mark_known.Statement.{statement}
+use Rattle.subtree.proofs.mark_known.Tie as tie
+
+abbrev Inv-loop : tie.InvT-loop
+Inv-loop parents sequences root known₀ out₀ n count₀ i₀ known out count i =
+    (i ≤ n) × ((count ≤ i) × ((length known ≡ length known₀) × ((length out ≡ length out₀)
+    × (Right parents sequences (root .0) known₀
+    → Right parents sequences (root .0) known
+    × ((count ≡ length (allBelow (inSubtree parents sequences (root .0)) i)) × (out ≡ sets out₀ 0 (allBelow (inSubtree parents sequences (root .0)) i)))))))
+
+abbrev μ-loop : tie.MeasureT-loop
+μ-loop parents sequences root known₀ out₀ n count₀ i₀ known out count i = n - i
+
+slots-requires : tie.Need-slots-requires Inv-loop μ-loop
+slots-requires c κs = search needs
+
+loop-holds : tie.Need-loop-holds Inv-loop μ-loop
+loop-holds c = (omega arith, (omega arith, (refl, (refl, λ r. (r, (rw all-none, rw all-none))))))
+
+is-under-requires : tie.Need-is-under-requires Inv-loop μ-loop
+is-under-requires c κs = search needs
+
+put-word-requires : tie.Need-put-word-requires Inv-loop μ-loop
+put-word-requires c κs = search needs
+
+add-count : tie.Need-add-count Inv-loop μ-loop
+add-count c = omega arith
+
+add-i : tie.Need-add-i Inv-loop μ-loop
+add-i c = omega arith
+
+loop-less : tie.Need-loop-less Inv-loop μ-loop
+loop-less c = omega arith
+
+loop-again : tie.Need-loop-again Inv-loop μ-loop
+loop-again c =
+    let l = c .before .before .before .before .before .before .loop in
+    let a = c .before .before .before .before .before .before .before .before .before .before .before .before .args in
+    let u = c .before .before .before .is-under in
+    let test = inSubtree (a .parents .now) (a .sequences .now) (a .root .0) in
+    let h : l .i < slotsOf (a .sequences .now) = omega (arith, c .before .before .before .before .before .before .before .slots .ensures) in
+    ⊎-elim
+    (λ w. (
+      omega arith,
+      (
+        omega (arith, w .6),
+        (
+          u .kept .1 .1 .1 .0 ∙ l .inv .1 .1 .0,
+          (
+            rw (w .5) (w .2 .kept .0 ∙ l .inv .1 .1 .1 .0),
+            λ r.
+                let g = l .inv .1 .1 .1 .1 r in
+                let v = u .ensures (g .0) h in
+                let e : allBelow test (l .i + 1) ≡ allBelow test (l .i) ++ l .i ∷ [] = all-passes test (l .i) (sym (v .0) ∙ w .0 .taken) in
+                let z : 0 + length (allBelow test (l .i)) ≡ l .count = zero-add _ ∙ sym (g .1 .0) in (
+                  v .1,
+                  (
+                    rw (e, w .6) (omega (arith, length-append (allBelow test (l .i)) (l .i ∷ []), g .1 .0)),
+                    w .5 ∙ w .2 .ensures ∙ rw (e, sets-append, z, ← g .1 .1),
+                  ),
+                ),
+          ),
+        ),
+      ),
+    ))
+    (λ w. (
+      omega arith,
+      (
+        omega (arith, w .2),
+        (
+          u .kept .1 .1 .1 .0 ∙ l .inv .1 .1 .0,
+          (
+            rw (w .1) (l .inv .1 .1 .1 .0),
+            λ r.
+                let g = l .inv .1 .1 .1 .1 r in
+                let v = u .ensures (g .0) h in
+                let e : allBelow test (l .i + 1) ≡ allBelow test (l .i) = all-fails test (l .i) (sym (v .0) ∙ w .0 .left) in
+                (v .1, (rw e (w .2 ∙ g .1 .0), rw e (w .1 ∙ g .1 .1))),
+          ),
+        ),
+      ),
+    ))
+    (c .if1 .came)
+
+same-length : tie.Need-same-length Inv-loop μ-loop
+same-length c = c .before .loop .inv .1 .1 .0
+
+same-length-2 : tie.Need-same-length-2 Inv-loop μ-loop
+same-length-2 c = c .before .loop .inv .1 .1 .1 .0
+
+returns : tie.Need-returns Inv-loop μ-loop
+unfolding markSubtree
+returns c r =
+    let l = c .before .loop in
+    let n = c .before .before .slots in
+    let d : l .i ≡ n .result = omega arith in
+    let w = l .inv .1 .1 .1 .1 r in
+    (rw (r .there, ← n .ensures, ← d) (w .1 .0), rw (r .there, ← n .ensures, ← d) (w .1 .1))
+
+pub mark-known-spec : {M : Type 1} → statement M
+mark-known-spec =
+    tie.close
+    (tie.spec
+    Inv-loop
+    μ-loop
+    slots-requires
+    loop-holds
+    is-under-requires
+    put-word-requires
+    add-count
+    add-i
+    loop-less
+    loop-again
+    same-length
+    same-length-2
+    returns)

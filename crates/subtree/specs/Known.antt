@@ -1,0 +1,34 @@
+-- What is remembered of the walks to a root: a byte a slot, 0 where nothing is known yet, 1 where the walk reaches the root.
+use mathlib.Core.Path.{_≡_}
+use mathlib.Core.Logic.{_≢_}
+use mathlib.Core.Bool.{true, false, not}
+use mathlib.Core.List.{List}
+use Prim.Native.Nat.{ℕ}
+use lib.Dec.{eqb}
+use lib.ListN.{getD}
+use Rattle.rules.specs.Common.{if_then_else_}
+use Rattle.rules.specs.Records.{NONE, slotsOf, parentAt, occupied}
+use Rattle.rules.specs.BlockTable.{reaches}
+
+abbrev pub knownAt : List ℕ → ℕ → ℕ
+knownAt known i = getD known i 0
+
+-- the slot after i on a walk, which ends at the root, at a slot of which something is known, at an empty one, and where there is no parent
+unfoldable pub above : (parents sequences : List ℕ) → ℕ → List ℕ → ℕ → ℕ
+above parents sequences root known i =
+    if eqb i root then NONE
+    else if not (eqb (knownAt known i) 0) then NONE
+    else if not (occupied sequences i) then NONE
+    else parentAt parents i
+
+-- what the last slot of a walk tells of it
+unfoldable pub told : ℕ → List ℕ → ℕ → ℕ
+told root known i =
+    if eqb i root then 1
+    else if eqb (knownAt known i) 0 then 2
+    else knownAt known i
+
+-- the root is there, and what is known is what the rule gives
+pub record Right (parents sequences : List ℕ) (root : ℕ) (known : List ℕ) : Type 0 where
+  pub there : occupied sequences root ≡ true
+  pub right : (i : ℕ) → knownAt known i ≢ 0 → reaches parents sequences root (slotsOf sequences) i ≡ eqb (knownAt known i) 1

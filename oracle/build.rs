@@ -1,6 +1,6 @@
 //! Copies the original's files, unchanged, to the build folder, and declares after each a child
 //! module of ours, which so reaches the private fields and functions; and links the port's static
-//! library.
+//! libraries.
 
 use std::path::Path;
 use std::{env, fs, process};
@@ -32,14 +32,16 @@ fn main() {
     }
     fs::write(Path::new(&out).join("modules.rs"), modules).expect("the build folder is written");
 
-    let library = archive.join("libprobe.a");
-    if !library.exists() {
-        stop(&format!("no {}: `rt staticlib probe` makes it", library.display()));
+    for name in ["probe", "station"] {
+        let library = archive.join(format!("lib{name}.a"));
+        if !library.exists() {
+            stop(&format!("no {}: `rt staticlib {name}` makes it", library.display()));
+        }
+        println!("cargo::rerun-if-changed={}", library.display());
+        println!("cargo::rustc-link-lib=static={name}");
     }
     println!("cargo::rerun-if-changed=build.rs");
-    println!("cargo::rerun-if-changed={}", library.display());
     println!("cargo::rustc-link-search=native={}", archive.display());
-    println!("cargo::rustc-link-lib=static=probe");
 }
 
 fn stop(message: &str) -> ! {

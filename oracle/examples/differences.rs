@@ -1,7 +1,8 @@
 //! The shortest lists of calls on which the original's heads are not as one would expect, and what
 //! it leaves: `cargo run --release --example differences`.
 
-use oracle::calls::{Call, admit};
+use oracle::calls::Call;
+use oracle::judge::{self, admit};
 use oracle::show;
 use oracle::tables::Tables;
 
@@ -48,17 +49,17 @@ fn main() {
         for call in calls {
             let before = t.clone();
             println!("{call}");
-            call.run(&mut t).expect("no call is refused");
-            print_unrefreshed(call, before, &t);
+            judge::run(&call, &mut t).expect("no call is refused");
+            print_unrefreshed(&call, before, &t);
         }
         println!("\nafter the calls\n{}\n", show::lines(&t).join("\n"));
     }
 }
 
 /// Prints the tables without admit's added step, where it changes them.
-fn print_unrefreshed(call: Call, mut t: Tables, refreshed: &Tables) {
+fn print_unrefreshed(call: &Call, mut t: Tables, refreshed: &Tables) {
     if let Call::Admit { sequence, hash, previous, arrival } = call {
-        admit(&mut t, sequence, [hash; 32], [previous; 32], arrival).expect("it is not refused");
+        admit(&mut t, *sequence, hash, previous, *arrival).expect("it is not refused");
         if t != *refreshed {
             println!("\nwithout the added step\n{}", show::lines(&t).join("\n"));
         }

@@ -1,6 +1,7 @@
 //! The arguments of the compared functions, all of them at once: each function takes some. And a
 //! walk over the fields of arguments and tables, for what must treat each kind of field alike.
 
+use crate::misfit::Misfit;
 use crate::show::{hex, reference};
 use crate::tables::{BlockStatus, Hash, Tables};
 
@@ -26,6 +27,13 @@ pub struct Args {
     pub deleted: Vec<u32>,
     pub first: Rank,
     pub second: Rank,
+    /// How many bytes a call gets for the hash, and for the previous one.
+    pub hash_length: usize,
+    pub previous_length: usize,
+    /// The retry span, where one is given.
+    pub span: Option<u64>,
+    /// How the buffers that a call gets are put out of shape.
+    pub misfit: Option<Misfit>,
 }
 
 /// The value, length and hash of a branch.
@@ -43,6 +51,15 @@ pub enum Field<'a> {
 }
 
 impl Args {
+    /// The tables as a call gets them.
+    pub fn lend(&self, tables: &Tables) -> Tables {
+        let mut lent = tables.clone();
+        if let Some(misfit) = self.misfit {
+            misfit.apply(&mut lent);
+        }
+        lent
+    }
+
     pub fn each_field(&mut self, see: &mut impl FnMut(Field)) {
         see(Field::BlockSlot(&mut self.slot));
         see(Field::BlockSlot(&mut self.parent));
@@ -62,6 +79,7 @@ impl Args {
             see(Field::Time(value));
             see(Field::Hash(hash));
         }
+        self.span.iter_mut().for_each(|span| see(Field::Time(span)));
     }
 
     /// The arguments by name, as they are shown.
@@ -85,6 +103,10 @@ impl Args {
             ("deleted", format!("{:?}", self.deleted)),
             ("first", rank(&self.first)),
             ("second", rank(&self.second)),
+            ("hash_length", self.hash_length.to_string()),
+            ("previous_length", self.previous_length.to_string()),
+            ("span", format!("{:?}", self.span)),
+            ("misfit", format!("{:?}", self.misfit)),
         ]
     }
 }

@@ -1,136 +1,113 @@
-//! The calls of the scope document, put together from the original's functions as it says, and
-//! their lines in its trial program.
+//! The calls of the scope document: what each takes and answers, and its line in the trial program.
+//! Where the trial has no form, it is our own: `N` alone is fresh, `L retry` asks for the earliest
+//! deadline, `-` in place of a retry is none given, and `x` comes before a hash of other bytes.
 
-use crate::original::*;
-use crate::tables::{BlockStatus, Hash, Head, NONE_REF, Recovery, Tables};
+use crate::tables::Recovery;
 use std::fmt;
 
-#[derive(Debug, Clone, Copy, PartialEq, Eq, Hash)]
+#[derive(Debug, Clone, PartialEq, Eq)]
 pub enum Call {
-    Admit { sequence: u32, hash: u8, previous: u8, arrival: u64 },
+    Fresh,
+    Admit { sequence: u32, hash: Vec<u8>, previous: Vec<u8>, arrival: u64 },
     Promote { slot: u32 },
     Remove { slot: u32 },
-    Timer { now: u64, retry: u64 },
+    Timer { now: u64, span: Option<u64> },
+    Deadline { span: Option<u64> },
     Restart { now: u64 },
 }
 
 #[derive(Debug, Clone, Copy, PartialEq, Eq)]
 pub enum Answer {
     Slot(u32),
-    Freed(usize),
+    Freed(u32),
     Asked(Option<Recovery>),
+    Due(Option<u64>),
     Done,
+    /// What the port returned where it is none of the call's answers.
+    Unread(u64),
 }
 
 /// The number of a refusal.
 pub type Refusal = u8;
 
+pub type Reply = Result<Answer, Refusal>;
+
 impl Call {
-    /// The call's line.
+    pub const NAMES: [&str; 7] =
+        ["fresh", "admit", "promote", "remove", "timer", "deadline", "restart"];
+
+    /// The place of the call's name.
+    pub fn kind(&self) -> usize {
+        match self {
+            Call::Fresh => 0,
+            Call::Admit { .. } => 1,
+            Call::Promote { .. } => 2,
+            Call::Remove { .. } => 3,
+            Call::Timer { .. } => 4,
+            Call::Deadline { .. } => 5,
+            Call::Restart { .. } => 6,
+        }
+    }
+
+    /// The call of a line.
     pub fn read(line: &str) -> Option<Call> {
         let words: Vec<&str> = line.split_whitespace().collect();
         Some(match words[..] {
+            ["N"] => Call::Fresh,
             ["A", sequence, hash, previous, arrival] => Call::Admit {
                 sequence: sequence.parse().ok()?,
-                hash: u8::from_str_radix(hash, 16).ok()?,
-                previous: u8::from_str_radix(previous, 16).ok()?,
+                hash: read_hash(hash)?,
+                previous: read_hash(previous)?,
                 arrival: arrival.parse().ok()?,
             },
             ["P", slot] => Call::Promote { slot: slot.parse().ok()? },
             ["D", slot] => Call::Remove { slot: slot.parse().ok()? },
-            ["T", now, retry] => Call::Timer { now: now.parse().ok()?, retry: retry.parse().ok()? },
+            ["T", now, span] => Call::Timer { now: now.parse().ok()?, span: read_span(span)? },
+            ["L", span] => Call::Deadline { span: read_span(span)? },
             ["R", now] => Call::Restart { now: now.parse().ok()? },
             _ => return None,
         })
-    }
-
-    /// Runs the call; where it is refused the tables stay.
-    pub fn run(self, t: &mut Tables) -> Result<Answer, Refusal> {
-        match self {
-            Call::Admit { sequence, hash, previous, arrival } => {
-                let slot = admit(t, sequence, [hash; 32], [previous; 32], arrival)?;
-                refresh_tails(t);
-                Ok(Answer::Slot(slot))
-            }
-            Call::Promote { slot } => promote(t, slot),
-            Call::Remove { slot } => remove(t, slot),
-            Call::Timer { now, retry } => {
-                let asked = select_parent_recovery(t, now, retry);
-                if let Some(asked) = asked {
-                    mark_requested(t, asked.head, now);
-                }
-                Ok(Answer::Asked(asked))
-            }
-            Call::Restart { now } => {
-                (0..t.m()).for_each(|slot| t.set_head(slot, Head::EMPTY));
-                on_blocks_deleted(t, &[], NONE_REF);
-                rebuild_from_blocks(t, now);
-                Ok(Answer::Done)
-            }
-        }
     }
 }
 
 impl fmt::Display for Call {
     fn fmt(&self, f: &mut fmt::Formatter) -> fmt::Result {
         match self {
+            Call::Fresh => write!(f, "N"),
             Call::Admit { sequence, hash, previous, arrival } => {
-                write!(f, "A {sequence} {hash:02x} {previous:02x} {arrival}")
+                write!(f, "A {sequence} {} {} {arrival}", hash_word(hash), hash_word(previous))
             }
             Call::Promote { slot } => write!(f, "P {slot}"),
             Call::Remove { slot } => write!(f, "D {slot}"),
-            Call::Timer { now, retry } => write!(f, "T {now} {retry}"),
+            Call::Timer { now, span } => write!(f, "T {now} {}", span_word(*span)),
+            Call::Deadline { span } => write!(f, "L {}", span_word(*span)),
             Call::Restart { now } => write!(f, "R {now}"),
         }
     }
 }
 
-/// Admit without its added step, as the original does it.
-pub fn admit(
-    t: &mut Tables,
-    sequence: u32,
-    hash: Hash,
-    previous: Hash,
-    arrival: u64,
-) -> Result<u32, Refusal> {
-    if sequence == NONE_REF {
-        return Err(4);
-    }
-    if hash == [0; 32] {
-        return Err(5);
-    }
-    if find(t, sequence, hash).is_some() {
-        return Err(6);
-    }
-    let slot = next_free_index(t).ok_or(7)?;
-    let parent = find_parent(t, previous, sequence);
-    insert_at(t, slot, hash, parent.unwrap_or(NONE_REF), sequence, 0, 0);
-    on_block_admitted(t, slot, parent, previous, arrival);
-    Ok(slot)
+fn read_hash(word: &str) -> Option<Vec<u8>> {
+    let Some(digits) = word.strip_prefix('x') else {
+        return Some(vec![u8::from_str_radix(word, 16).ok()?; 32]);
+    };
+    digits.as_bytes().chunks(2).map(|pair| byte(std::str::from_utf8(pair).ok()?)).collect()
 }
 
-fn promote(t: &mut Tables, slot: u32) -> Result<Answer, Refusal> {
-    let block = get(t, slot).ok_or(3)?;
-    if t.active != NONE_REF && block.parent != t.active {
-        return Err(8);
-    }
-    set_on_active_chain(t, slot, true);
-    set_status(t, slot, BlockStatus::Active);
-    t.active = slot;
-    recompute_all_caches(t);
-    Ok(Answer::Slot(slot))
+fn byte(digits: &str) -> Option<u8> {
+    u8::from_str_radix(digits, 16).ok()
 }
 
-fn remove(t: &mut Tables, slot: u32) -> Result<Answer, Refusal> {
-    let block = get(t, slot).ok_or(3)?;
-    let (freed, mut slots) = mark_subtree(t, slot);
-    slots.truncate(freed);
-    if slots.iter().any(|&slot| t.flags[slot as usize] & 1 == 1) {
-        return Err(9);
+fn hash_word(hash: &[u8]) -> String {
+    match hash {
+        [first, ..] if hash == [*first; 32] => format!("{first:02x}"),
+        _ => hash.iter().fold("x".to_string(), |word, byte| word + &format!("{byte:02x}")),
     }
-    for &slot in &slots {
-        delete(t, slot);
-    }
-    on_blocks_deleted(t, &slots, block.parent);
-    Ok(Answer::Freed(freed))
+}
+
+fn read_span(word: &str) -> Option<Option<u64>> {
+    if word == "-" { Some(None) } else { word.parse().ok().map(Some) }
+}
+
+fn span_word(span: Option<u64>) -> String {
+    span.map_or_else(|| "-".to_string(), |ticks| ticks.to_string())
 }

@@ -12,7 +12,7 @@ pub struct Function {
     pub takes: &'static [&'static str],
     /// Whether the call is within the comparison: elsewhere the original panics.
     pub compares: fn(&Tables, &Args) -> bool,
-    pub differ: fn(&Tables, &Args) -> Option<Difference>,
+    pub differ: fn(&Tables, &Args) -> Option<Box<Difference>>,
 }
 
 /// One call on one table.
@@ -25,7 +25,7 @@ pub struct Case {
 
 impl Case {
     /// What differs, where the call is within the comparison.
-    pub fn difference(&self) -> Option<Difference> {
+    pub fn difference(&self) -> Option<Box<Difference>> {
         if !(self.function.compares)(&self.tables, &self.args) {
             return None;
         }
@@ -33,8 +33,9 @@ impl Case {
     }
 }
 
-/// What each side answered and left.
+/// The tables as they were given, and what each side answered and left.
 pub struct Difference {
+    pub before: Tables,
     pub original: (String, Tables),
     pub port: (String, Tables),
 }
@@ -56,6 +57,7 @@ macro_rules! function {
                     |t| original::$name(t, $(&_args.$lent,)? $(_args.$taken),*),
                     |t| port::$name(t, $(&_args.$lent,)? $(_args.$taken),*),
                 )
+                .err()
             },
         }
     };
@@ -110,17 +112,22 @@ fn head_in_range(tables: &Tables, args: &Args) -> bool {
     (args.head as usize) < tables.m()
 }
 
-fn compare<R: PartialEq + Debug>(
+/// The answer and the tables on which both sides agree.
+pub fn compare<R: PartialEq + Debug>(
     tables: &Tables,
     original: impl FnOnce(&mut Tables) -> R,
     port: impl FnOnce(&mut Tables) -> R,
-) -> Option<Difference> {
+) -> Result<(R, Tables), Box<Difference>> {
     let mut judged = tables.clone();
     let mut ported = tables.clone();
     let verdict = original(&mut judged);
     let answer = port(&mut ported);
-    (verdict != answer || judged != ported).then(|| Difference {
+    if verdict == answer && judged == ported {
+        return Ok((answer, ported));
+    }
+    Err(Box::new(Difference {
+        before: tables.clone(),
         original: (format!("{verdict:?}"), judged),
         port: (format!("{answer:?}"), ported),
-    })
+    }))
 }

@@ -2,6 +2,7 @@
 //! and tables of arbitrary fields; arguments that meet them and arguments that do not.
 
 use crate::args::{Args, Rank};
+use crate::misfit::Misfit;
 use crate::random::Random;
 use crate::tables::{Block, BlockStatus, Hash, Head, NONE_REF, Tables};
 
@@ -23,7 +24,7 @@ const HEAD_SLOTS: [(usize, usize); 7] =
     [(2, 300), (3, 250), (4, 200), (5, 130), (8, 100), (16, 18), (64, 2)];
 
 /// The highest sequence that a block can have.
-const TOP: u32 = NONE_REF - 1;
+pub(crate) const TOP: u32 = NONE_REF - 1;
 
 const ON_ACTIVE_CHAIN: u8 = 0b1;
 const STATUS_ACTIVE: u8 = 0b100;
@@ -80,11 +81,30 @@ pub fn args(r: &mut Random, t: &Tables) -> Args {
         deleted: freed(r, t),
         first,
         second: (r.pick(&[second.0, first.0]), r.pick(&[second.1, first.1]), previous),
+        hash_length: hash_length(r),
+        previous_length: hash_length(r),
+        span: given_span(r),
+        misfit: if r.percent(8) { Some(misfit(r)) } else { None },
     }
 }
 
-/// Often a block that has just been put in, as admit does before its heads follow, or one that a
-/// head misses; else any slot.
+/// Lengths that a hash cannot have.
+pub(crate) const LENGTHS: [usize; 6] = [0, 1, 16, 31, 33, 64];
+
+fn hash_length(r: &mut Random) -> usize {
+    if r.percent(94) { 32 } else { r.pick(&LENGTHS) }
+}
+
+fn misfit(r: &mut Random) -> Misfit {
+    match r.below(6) {
+        0 => Misfit::Blocks(r.pick(&[0, 1025, 1026, 2048])),
+        1 => Misfit::Heads(r.pick(&[0, 1, 65, 66, 128])),
+        _ => Misfit::Buffer(r.below(11), r.pick(&[-64, -32, -31, -2, -1, 1, 2, 31, 32, 64])),
+    }
+}
+
+/// Often a block that has just been put in, as admit does before its heads follow, one that a head
+/// misses, or one whose parent is the active head; else any slot.
 fn met_slot(r: &mut Random, t: &Tables) -> u32 {
     let met = match r.below(8) {
         0..=3 => (0..t.n()).find(|&at| t.sequences[at] != NONE_REF && t.counts[at] == 0),
@@ -92,6 +112,7 @@ fn met_slot(r: &mut Random, t: &Tables) -> u32 {
             let missing = t.head(r.below(t.m())).missing;
             (0..t.n()).find(|&at| t.block(at).hash == missing)
         }
+        5 => (0..t.n()).find(|&at| t.parents[at] == t.active),
         _ => None,
     };
     met.map_or_else(|| any_slot(r, t.n()), |at| at as u32)
@@ -125,6 +146,10 @@ fn head_slot(r: &mut Random, m: usize) -> u32 {
     }
 }
 
+pub(crate) fn given_span(r: &mut Random) -> Option<u64> {
+    if r.percent(30) { None } else { Some(span(r)) }
+}
+
 fn span(r: &mut Random) -> u64 {
     match r.below(8) {
         0 | 1 => 0,
@@ -142,7 +167,7 @@ fn rank(r: &mut Random, hash: Hash) -> Rank {
 
 /// A block slot, in range two times in three, and otherwise one that a wrong width would take for
 /// one in range, or any.
-fn any_slot(r: &mut Random, n: usize) -> u32 {
+pub(crate) fn any_slot(r: &mut Random, n: usize) -> u32 {
     let inside = r.below(n) as u32;
     match r.below(16) {
         0 => n as u32,
@@ -171,7 +196,7 @@ fn byte(r: &mut Random) -> u8 {
     if r.percent(50) { r.pick(&[0, 1, 2, 127, 128, 254, 255]) } else { r.word() as u8 }
 }
 
-fn time(r: &mut Random) -> u64 {
+pub(crate) fn time(r: &mut Random) -> u64 {
     match r.below(8) {
         0..=2 => 0,
         3..=5 => r.below(20) as u64,
@@ -213,22 +238,31 @@ fn any_hash(r: &mut Random) -> Hash {
 }
 
 /// Distinct hashes of one table, which differ in the first bytes, in the last, or everywhere.
-struct Hashes {
+pub(crate) struct Hashes {
     base: Hash,
     made: u16,
     first: bool,
     last: bool,
+    one_byte: bool,
 }
 
 impl Hashes {
-    fn new(r: &mut Random) -> Hashes {
+    pub(crate) fn new(r: &mut Random) -> Hashes {
         let base = edge_hash(r);
         let (first, last) = r.pick(&[(true, false), (false, true), (true, true), (false, false)]);
-        Hashes { base, made: 0, first, last }
+        Hashes { base, made: 0, first, last, one_byte: false }
     }
 
-    fn next(&mut self, r: &mut Random) -> Hash {
+    /// One byte 32 times, as in the lines of a trial; after 255 they come again.
+    pub(crate) fn of_one_byte() -> Hashes {
+        Hashes { base: [0; 32], made: 0, first: false, last: false, one_byte: true }
+    }
+
+    pub(crate) fn next(&mut self, r: &mut Random) -> Hash {
         self.made += 1;
+        if self.one_byte {
+            return [(self.made % 255 + 1) as u8; 32];
+        }
         let [high, low] = self.made.to_be_bytes();
         let mut hash = if self.first || self.last { self.base } else { any_hash(r) };
         if self.first {

@@ -1,19 +1,31 @@
-//! The original Rust tables as the judge of the port: both sides as functions on the same lent
-//! buffers, and what compares them on random tables.
+//! The original Rust tables as the judge of the port: both sides as functions and calls on the same
+//! lent buffers, and what compares them.
 
 #[cfg(debug_assertions)]
 compile_error!("the judge is a release build: cargo run --release");
 
 pub mod args;
 pub mod calls;
+pub mod exhaustive;
 pub mod functions;
 pub mod generate;
+pub mod judge;
+pub mod lists;
+pub mod misfit;
+pub mod modes;
 pub mod port;
+pub mod promises;
 pub mod random;
+pub mod scripts;
+pub mod shorten;
 pub mod show;
 pub mod shrink;
+pub mod single;
+pub mod station;
 pub mod tables;
+pub mod tally;
 
+mod entries;
 mod sizes;
 mod stand_ins;
 

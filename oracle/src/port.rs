@@ -1,41 +1,20 @@
-//! The port's functions on the lent buffers, by the C entry points of its static library. A slice
-//! passes as its pointer and its length; NONE_REF stands for none, 1 and 0 for yes and no.
+//! The port's functions on the lent buffers, by the C entry points of its static libraries. NONE_REF
+//! stands for none, 1 and 0 for yes and no.
 
 use crate::args::Rank;
+use crate::entries::{call, entries};
 use crate::tables::{Block, BlockStatus, Hash, Located, NONE_REF, Recovery, SPARE, Tables};
-
-/// Declares entry points as the port does: in `name(u32, [u8], [mut u8]) -> u32` a slice is its
-/// pointer and its length.
-macro_rules! entries {
-    ($($name:ident($($given:tt),*) $(-> $answer:ty)?;)*) => {
-        $(entries!($name () ($($answer)?) $($given)*);)*
-    };
-    ($name:ident ($($done:ty,)*) $answer:tt [mut $item:ty] $($rest:tt)*) => {
-        entries!($name ($($done,)* *mut $item, usize,) $answer $($rest)*);
-    };
-    ($name:ident ($($done:ty,)*) $answer:tt [$item:ty] $($rest:tt)*) => {
-        entries!($name ($($done,)* *const $item, usize,) $answer $($rest)*);
-    };
-    ($name:ident ($($done:ty,)*) $answer:tt $word:ident $($rest:tt)*) => {
-        entries!($name ($($done,)* $word,) $answer $($rest)*);
-    };
-    ($name:ident ($($done:ty,)*) ($($answer:ty)?)) => {
-        unsafe extern "C" {
-            fn $name($(_: $done),*) $(-> $answer)?;
-        }
-    };
-}
 
 entries! {
     probe_hash_less([u8], [u8]) -> u32;
-    probe_find([u8], [u32], u32, [u8]) -> u32;
-    probe_next_free_index([u32]) -> u32;
-    probe_find_parent([u8], [u32], [u8], u32) -> u32;
-    probe_get([u8], [u32], [u32], [u8], [u8], u32, [mut u8], [mut u32]) -> u32;
-    probe_head_ref_count([u32], [u8], u32) -> u32;
-    probe_status([u32], [u8], u32) -> u32;
-    probe_mark_subtree([u32], [u32], u32, [mut u32]) -> u32;
-    probe_walks_to_active_chain([u32], [u32], [u8], u32) -> u32;
+    station_find([u8], [u32], u32, [u8]) -> u32;
+    station_next_free_index([u32]) -> u32;
+    station_find_parent([u8], [u32], [u8], u32) -> u32;
+    station_get([u8], [u32], [u32], [u8], [u8], u32, [mut u8], [mut u32]) -> u32;
+    station_head_ref_count([u32], [u8], u32) -> u32;
+    station_status([u32], [u8], u32) -> u32;
+    station_mark_subtree([u32], [u32], u32, [mut u32]) -> u32;
+    station_walks_to_active_chain([u32], [u32], [u8], u32) -> u32;
     probe_adjust_head_ref_count([u32], [mut u8], u32, i8) -> u32;
     probe_set_head_ref_count([u32], [mut u8], u32, u8) -> u32;
     probe_set_on_active_chain([u32], [mut u8], u32, u32) -> u32;
@@ -45,11 +24,11 @@ entries! {
     );
     probe_delete([mut u8], [mut u32], [mut u32], [mut u8], [mut u8], u32) -> u32;
     probe_resolve_parent_ref([mut u32], u32, u32);
-    probe_count([u32]) -> u32;
-    probe_has_stored_head([u32], [u8]) -> u32;
-    probe_slot_of_head([u32], u32) -> u32;
+    station_count([u32]) -> u32;
+    station_has_stored_head([u32], [u8]) -> u32;
+    station_slot_of_head([u32], u32) -> u32;
     probe_first_empty([u32]) -> u32;
-    probe_locate_anchor([u32], [u32], [u8], u32) -> u64;
+    station_locate_anchor([u32], [u32], [u8], u32) -> u64;
     probe_recompute_caches(
         [u32], [u32], [u8], [u32], [mut u32], [mut u8], [mut u64], [mut u8], u32, u32, [u8]
     );
@@ -92,24 +71,7 @@ entries! {
     probe_select_parent_recovery([u8], [u32], [u32], [u32], [u64], [u8], u64, u64) -> u64;
     probe_mark_requested([mut u64], u32, u64);
     probe_earliest_recovery_deadline([u32], [u64], [u8], u64, [mut u64]) -> u32;
-    probe_outranks(u64, u16, [u8], u64, u16, [u8]) -> u32;
-}
-
-/// `call!(name(word, [slice], [mut slice]))` calls an entry point in the same way.
-macro_rules! call {
-    ($entry:ident($($given:tt),*)) => { call!($entry () $($given)*) };
-    ($entry:ident ($($done:expr,)*) [mut $slice:expr] $($rest:tt)*) => {
-        call!($entry ($($done,)* $slice.as_mut_ptr(), $slice.len(),) $($rest)*)
-    };
-    ($entry:ident ($($done:expr,)*) [$slice:expr] $($rest:tt)*) => {
-        call!($entry ($($done,)* $slice.as_ptr(), $slice.len(),) $($rest)*)
-    };
-    ($entry:ident ($($done:expr,)*) $word:tt $($rest:tt)*) => {
-        call!($entry ($($done,)* $word,) $($rest)*)
-    };
-    // SAFETY: the entry point is declared as the port has it, keeps no slice, and reads and writes
-    // within the lengths.
-    ($entry:ident ($($done:expr,)*)) => { unsafe { $entry($($done),*) } };
+    station_outranks(u64, u16, [u8], u64, u16, [u8]) -> u32;
 }
 
 fn found(answer: u32) -> Option<u32> {
@@ -133,21 +95,21 @@ pub fn hash_less(_: &Tables, hash: Hash, other: Hash) -> bool {
 }
 
 pub fn find(t: &Tables, sequence: u32, hash: Hash) -> Option<u32> {
-    found(call!(probe_find([t.hashes], [t.sequences], sequence, [hash])))
+    found(call!(station_find([t.hashes], [t.sequences], sequence, [hash])))
 }
 
 pub fn next_free_index(t: &Tables) -> Option<u32> {
-    found(call!(probe_next_free_index([t.sequences])))
+    found(call!(station_next_free_index([t.sequences])))
 }
 
 pub fn find_parent(t: &Tables, previous: Hash, sequence: u32) -> Option<u32> {
-    found(call!(probe_find_parent([t.hashes], [t.sequences], [previous], sequence)))
+    found(call!(station_find_parent([t.hashes], [t.sequences], [previous], sequence)))
 }
 
 pub fn get(t: &Tables, slot: u32) -> Option<Block> {
     let mut hash = [0; 32];
     let mut words = [0; 4];
-    let there = call!(probe_get(
+    let there = call!(station_get(
         [t.hashes], [t.parents], [t.sequences], [t.counts], [t.flags], slot, [mut hash], [mut words]
     ));
     let [parent, sequence, count, flags] = words;
@@ -161,11 +123,11 @@ pub fn get(t: &Tables, slot: u32) -> Option<Block> {
 }
 
 pub fn head_ref_count(t: &Tables, slot: u32) -> Option<u8> {
-    counted(call!(probe_head_ref_count([t.sequences], [t.counts], slot)))
+    counted(call!(station_head_ref_count([t.sequences], [t.counts], slot)))
 }
 
 pub fn status(t: &Tables, slot: u32) -> Option<BlockStatus> {
-    found(call!(probe_status([t.sequences], [t.flags], slot))).map(|status| match status {
+    found(call!(station_status([t.sequences], [t.flags], slot))).map(|status| match status {
         0 => BlockStatus::Stored,
         1 => BlockStatus::Connected,
         2 => BlockStatus::Active,
@@ -176,12 +138,12 @@ pub fn status(t: &Tables, slot: u32) -> Option<BlockStatus> {
 /// The number of slots listed, and the caller's list of n as it then stands.
 pub fn mark_subtree(t: &Tables, slot: u32) -> (usize, Vec<u32>) {
     let mut list = vec![SPARE; t.n()];
-    let listed = call!(probe_mark_subtree([t.parents], [t.sequences], slot, [mut list]));
+    let listed = call!(station_mark_subtree([t.parents], [t.sequences], slot, [mut list]));
     (listed as usize, list)
 }
 
 pub fn walks_to_active_chain(t: &Tables, slot: u32) -> bool {
-    said(call!(probe_walks_to_active_chain([t.parents], [t.sequences], [t.flags], slot)))
+    said(call!(station_walks_to_active_chain([t.parents], [t.sequences], [t.flags], slot)))
 }
 
 pub fn adjust_head_ref_count(t: &mut Tables, slot: u32, change: i8) -> Option<u8> {
@@ -232,15 +194,15 @@ pub fn resolve_parent_ref(t: &mut Tables, slot: u32, parent: u32) {
 }
 
 pub fn count(t: &Tables) -> usize {
-    call!(probe_count([t.tips])) as usize
+    call!(station_count([t.tips])) as usize
 }
 
 pub fn has_stored_head(t: &Tables) -> bool {
-    said(call!(probe_has_stored_head([t.tips], [t.connected])))
+    said(call!(station_has_stored_head([t.tips], [t.connected])))
 }
 
 pub fn slot_of_head(t: &Tables, slot: u32) -> Option<u32> {
-    found(call!(probe_slot_of_head([t.tips], slot)))
+    found(call!(station_slot_of_head([t.tips], slot)))
 }
 
 pub fn first_empty(t: &Tables) -> Option<u32> {
@@ -250,7 +212,7 @@ pub fn first_empty(t: &Tables) -> Option<u32> {
 /// 2^32 is added to a connection.
 pub fn locate_anchor(t: &Tables, slot: u32) -> Located {
     let (kind, at) =
-        halves(call!(probe_locate_anchor([t.parents], [t.sequences], [t.flags], slot)));
+        halves(call!(station_locate_anchor([t.parents], [t.sequences], [t.flags], slot)));
     match kind {
         0 => Located::Tail(at),
         1 => Located::Connection(at),
@@ -396,5 +358,5 @@ pub fn earliest_recovery_deadline(t: &Tables, retry: u64) -> Option<u64> {
 pub fn outranks(_: &Tables, first: Rank, second: Rank) -> bool {
     let (value, len, hash) = first;
     let (value2, len2, hash2) = second;
-    said(call!(probe_outranks(value, len, [hash], value2, len2, [hash2])))
+    said(call!(station_outranks(value, len, [hash], value2, len2, [hash2])))
 }

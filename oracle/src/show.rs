@@ -1,6 +1,8 @@
 //! A difference in readable form.
 
 use crate::functions::{Case, Difference};
+use crate::judge::is_shaped;
+use crate::lists::{List, Trouble};
 use crate::tables::{Block, Head, NONE_REF, Tables};
 
 /// The call, the tables before it, and each side's answer and the tables after it.
@@ -8,27 +10,54 @@ pub fn difference(case: &Case, found: &Difference) -> String {
     let taken = case.args.named();
     let taken = taken.iter().filter(|(name, _)| case.function.takes.contains(name));
     let taken: Vec<String> = taken.map(|(name, value)| format!("{name} {value}")).collect();
-    let before = &case.tables;
+    let call = format!("{}({})", case.function.name, taken.join(", "));
+    format!("{call}\n\n{}", sides(&case.tables, found))
+}
+
+/// A list up to its trouble, the tables before the last call, and what that call left.
+pub fn list(list: &List, trouble: &Trouble) -> String {
+    let calls = list.calls.iter().map(|call| format!("\n{call}"));
+    let calls = format!("N {} {}{}", list.n, list.m, calls.collect::<String>());
+    let last = match trouble {
+        Trouble::Differs(found) => sides(&found.before, found),
+        Trouble::Broken { before, after, why } => {
+            let left = changes(before, after);
+            format!("{}\n\nboth sides leave{left}\n\nbroken: {why}", before_it(before))
+        }
+    };
+    format!("{calls}\n\n{last}")
+}
+
+fn before_it(before: &Tables) -> String {
+    format!("before\n{}", lines(before).join("\n"))
+}
+
+fn sides(shown: &Tables, found: &Difference) -> String {
     format!(
-        "{}({})\n\nbefore\n{}\n{}\n{}",
-        case.function.name,
-        taken.join(", "),
-        lines(before).join("\n"),
-        side("the original", before, &found.original),
-        side("the port", before, &found.port),
+        "{}\n{}\n{}",
+        before_it(shown),
+        side("the original", &found.before, &found.original),
+        side("the port", &found.before, &found.port),
     )
 }
 
-/// What one side answered, and the tables as it left them; `*` marks what it changed.
+/// What one side answered, and the tables as it left them.
 fn side(name: &str, before: &Tables, (answer, after): &(String, Tables)) -> String {
-    if before == after {
-        return format!("\n{name} answers {answer} and changes nothing");
-    }
-    let mut text = format!("\n{name} answers {answer} and leaves");
-    for (old, new) in lines(before).iter().zip(lines(after)) {
-        text += &format!("\n{new}{}", if *old == new { "" } else { "  *" });
-    }
-    text
+    let left = match before == after {
+        true => "changes nothing".to_string(),
+        false if is_shaped(before) => format!("leaves{}", changes(before, after)),
+        false => "changes a buffer".to_string(),
+    };
+    format!("\n{name} answers {answer} and {left}")
+}
+
+/// The tables as a call left them; `*` marks what it changed.
+fn changes(before: &Tables, after: &Tables) -> String {
+    let marked = lines(before).into_iter().zip(lines(after)).map(|(old, new)| {
+        let mark = if old == new { "" } else { "  *" };
+        format!("\n{new}{mark}")
+    });
+    marked.collect()
 }
 
 /// A line for each slot.

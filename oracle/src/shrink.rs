@@ -19,6 +19,7 @@ pub fn shrink(case: Case) -> Case {
     let mut shrinker = Shrinker { cost: cost(&case), case, end };
     loop {
         let before = shrinker.cost;
+        shrinker.plainer_shape();
         shrinker.fewer_blocks();
         shrinker.fewer_heads();
         shrinker.emptier();
@@ -51,6 +52,12 @@ impl Shrinker {
             (self.case, self.cost) = (case, cost);
         }
         better
+    }
+
+    fn plainer_shape(&mut self) {
+        self.attempt(|case| case.args.misfit = None);
+        self.attempt(|case| case.args.hash_length = 32);
+        self.attempt(|case| case.args.previous_length = 32);
     }
 
     fn fewer_blocks(&mut self) {
@@ -194,7 +201,10 @@ impl Shrinker {
 
 /// What is to become small, the number of slots first.
 fn cost(case: &Case) -> (usize, u128) {
-    let mut sum = 0;
+    let args = &case.args;
+    let mut sum = u128::from(args.misfit.is_some())
+        + u128::from(args.hash_length != 32)
+        + u128::from(args.previous_length != 32);
     let mut case = case.clone();
     each_field(&mut case, &mut |field| {
         sum += match field {

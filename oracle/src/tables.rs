@@ -62,7 +62,7 @@ pub struct Recovery {
 }
 
 /// The five buffers of n blocks, the six of m heads, and the active head's slot.
-#[derive(Debug, Clone, PartialEq, Eq)]
+#[derive(Debug, Clone, PartialEq, Eq, Hash)]
 pub struct Tables {
     pub hashes: Vec<u8>,
     pub parents: Vec<u32>,
@@ -93,6 +93,24 @@ impl Tables {
             arrivals: vec![0; m],
             connected: vec![0; m],
             active: NONE_REF,
+        }
+    }
+
+    /// Tables in which no cell is as in an empty record.
+    pub fn used(n: usize, m: usize) -> Tables {
+        Tables {
+            hashes: vec![1; 32 * n],
+            parents: vec![1; n],
+            sequences: vec![1; n],
+            counts: vec![1; n],
+            flags: vec![1; n],
+            tips: vec![1; m],
+            tails: vec![1; m],
+            missing: vec![1; 32 * m],
+            requested: vec![1; m],
+            arrivals: vec![1; m],
+            connected: vec![1; m],
+            active: 1,
         }
     }
 

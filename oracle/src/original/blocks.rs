@@ -132,6 +132,13 @@ pub fn delete(t: &mut Tables, slot: u32) -> bool {
     by_n!(t.n(), N => changing::<N, _>(t, |b| b.delete(slot)))
 }
 
+/// Not a function of the original's, but its `delete` for each of the slots.
+pub fn delete_all(t: &mut Tables, slots: &[u32]) {
+    by_n!(t.n(), N => changing::<N, _>(t, |b| for &slot in slots {
+        b.delete(slot);
+    }))
+}
+
 pub fn resolve_parent_ref(t: &mut Tables, slot: u32, parent: u32) {
     by_n!(t.n(), N => changing::<N, _>(t, |b| b.resolve_parent_ref(slot, parent)))
 }

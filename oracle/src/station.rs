@@ -1,0 +1,107 @@
+//! The port's side of the calls, by the C entry points of `libstation.a`. The upper half of an
+//! answer is the refusal's number, or 0; the lower half is the answer.
+
+use crate::calls::{Answer, Call, Refusal, Reply};
+use crate::entries::{call, entries};
+use crate::tables::{NONE_REF, Recovery, SPARE, Tables};
+
+/// The caller's record.
+#[repr(C)]
+struct ActiveHead {
+    slot: u32,
+}
+
+type Held = *mut ActiveHead;
+
+entries! {
+    station_fresh([all], Held) -> u64;
+    station_admit([all], u32, u32, [u8], [u8], u64) -> u64;
+    station_promote([all], Held, u32) -> u64;
+    station_remove([all], u32) -> u64;
+    station_timer([all], u64, u32, u64, [mut u32], [mut u8]) -> u64;
+    station_earliest_deadline([all], u32, u64, [mut u64]) -> u64;
+    station_restart([all], u32, u64) -> u64;
+}
+
+/// What each byte of a place for an answer holds before the call.
+const UNWRITTEN: u8 = 0x5a;
+
+pub fn run(call: &Call, t: &mut Tables) -> Reply {
+    match *call {
+        Call::Fresh => with_record(t, |t, held| call!(station_fresh([all t], held))),
+        Call::Admit { sequence, ref hash, ref previous, arrival } => {
+            let active = t.active;
+            let answer = call!(station_admit(
+                [all t], active, sequence, [hash], [previous], arrival
+            ));
+            read(answer, |slot| Some(Answer::Slot(slot)))
+        }
+        Call::Promote { slot } => {
+            with_record(t, |t, held| call!(station_promote([all t], held, slot)))
+        }
+        Call::Remove { slot } => {
+            read(call!(station_remove([all t], slot)), |freed| Some(Answer::Freed(freed)))
+        }
+        Call::Timer { now, span } => timer(t, now, span),
+        Call::Deadline { span } => deadline(t, span),
+        Call::Restart { now } => {
+            let active = t.active;
+            read(call!(station_restart([all t], active, now)), done)
+        }
+    }
+}
+
+/// The reply of an answer whose lower half means what is said.
+fn read(answer: u64, means: impl FnOnce(u32) -> Option<Answer>) -> Reply {
+    let (refusal, said) = ((answer >> 32) as u32, answer as u32);
+    match (refusal, said) {
+        (0, said) => Ok(means(said).unwrap_or(Answer::Unread(answer))),
+        (1..=9, 0) => Err(refusal as Refusal),
+        _ => Ok(Answer::Unread(answer)),
+    }
+}
+
+fn done(said: u32) -> Option<Answer> {
+    (said == 0).then_some(Answer::Done)
+}
+
+/// A call that may change the record.
+fn with_record(t: &mut Tables, call: impl FnOnce(&mut Tables, Held) -> u64) -> Reply {
+    let mut record = ActiveHead { slot: t.active };
+    let answer = call(t, &mut record);
+    t.active = record.slot;
+    read(answer, done)
+}
+
+/// The claimed sequence and the hash are written where there is a request, and only there.
+fn timer(t: &mut Tables, now: u64, span: Option<u64>) -> Reply {
+    let (given, ticks) = words(span);
+    let mut claimed = [SPARE];
+    let mut wanted = [UNWRITTEN; 32];
+    let answer = call!(station_timer([all t], now, given, ticks, [mut claimed], [mut wanted]));
+    let kept = claimed == [SPARE] && wanted == [UNWRITTEN; 32];
+    let reply = read(answer, |head| match head {
+        NONE_REF => kept.then_some(Answer::Asked(None)),
+        _ => Some(Answer::Asked(Some(Recovery { head, missing: wanted, claimed: claimed[0] }))),
+    });
+    if reply.is_err() && !kept { Ok(Answer::Unread(answer)) } else { reply }
+}
+
+/// The time is written where there is one, and only there.
+fn deadline(t: &mut Tables, span: Option<u64>) -> Reply {
+    let (given, ticks) = words(span);
+    let mut time = [u64::from(SPARE)];
+    let answer = call!(station_earliest_deadline([all t], given, ticks, [mut time]));
+    let kept = time == [u64::from(SPARE)];
+    let reply = read(answer, |said| match said {
+        0 => kept.then_some(Answer::Due(None)),
+        1 => Some(Answer::Due(Some(time[0]))),
+        _ => None,
+    });
+    if reply.is_err() && !kept { Ok(Answer::Unread(answer)) } else { reply }
+}
+
+/// Whether a span is given, and the span. One that is not given is a number that would be noticed.
+fn words(span: Option<u64>) -> (u32, u64) {
+    span.map_or((0, u64::from(SPARE)), |ticks| (1, ticks))
+}

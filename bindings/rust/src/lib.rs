@@ -1,0 +1,64 @@
+//! The booking chain's block tree and its heads, proved, for Rust programs.
+//!
+//! A station keeps its bookings in blocks, each of which names its parent by hash. [`Tables`] hold up to
+//! 1,024 of them and the heads of up to 64 branches; [`Tables::promote`] confirms a block. A full head
+//! table evicts a branch, and a block that another branch shares, or that is confirmed, must stay.
+//!
+//! ```
+//! use station::{BlockSlot, Refusal, Sequence, Tables};
+//!
+//! // A pass is booked and confirmed, and two branches share its block.
+//! let mut tables = Tables::new(4, 2)?;
+//! let pass = tables.admit(Sequence(5), &[0x0a; 32], &[0x09; 32], 1)?;
+//! tables.admit(Sequence(6), &[0x0b; 32], &[0x0a; 32], 2)?;
+//! tables.admit(Sequence(6), &[0x0c; 32], &[0x0a; 32], 3)?;
+//! tables.promote(pass)?;
+//!
+//! // The station restarts, and what it stored has no counts.
+//! let mut stored = tables.into_parts();
+//! stored.counts.fill(0);
+//! let mut tables = Tables::from_parts(stored);
+//! tables.restart(10)?;
+//! assert_eq!(tables.head_ref_count(pass), Some(2));
+//!
+//! // The head table is full, so a third branch evicts the lowest. The pass stays, and is not sold again.
+//! tables.admit(Sequence(7), &[0x0d; 32], &[0x0e; 32], 20)?;
+//! assert_eq!(tables.get(BlockSlot(1)), None);
+//! assert_eq!(tables.find(Sequence(5), &[0x0a; 32]), Some(pass));
+//! assert_eq!(tables.admit(Sequence(5), &[0x0a; 32], &[0x09; 32], 21), Err(Refusal::Known));
+//! # Ok::<(), Refusal>(())
+//! ```
+//!
+//! # What is proved
+//!
+//! Behind the methods stands an archive of functions, each proved to meet its contract:
+//!
+//! 1. On any buffers, slots, hashes and clocks a call ends, stays within its buffers, and does its
+//!    work or refuses with one [`Refusal`] and leaves every byte as it stood.
+//! 2. Its answer and what it leaves are those of its rule in `crates/rules/specs`.
+//! 3. After every list of calls from fresh tables the counts, heads and anchors are those worked out
+//!    afresh from the blocks, the active blocks are those promoted, and none was ever freed.
+//!
+//! Not proved, but tested: that this crate declares the archive's functions as they are (`src/raw.rs`),
+//! and the Rust around them, which lends the buffers and reads the answers; [`Tables::heads`] and
+//! [`Tables::head`] are Rust alone.
+//!
+//! # Building
+//!
+//! The build script links `target/staticlib/libstation.a` of the repository. Where that is missing or
+//! older than a file under `crates/` it runs `rt staticlib station`, which proves the crates first and
+//! so takes minutes from nothing; without the Rattle kit's `rt` on `PATH` it says so and stops. The
+//! archive is for x86-64.
+
+#![deny(unsafe_code, unsafe_op_in_unsafe_fn, missing_docs)]
+
+mod raw;
+mod records;
+mod refusal;
+mod tables;
+
+pub use records::{
+    Anchor, Block, BlockSlot, Hash, Head, HeadSlot, NONE_REF, Rank, Request, Sequence, Status,
+};
+pub use refusal::Refusal;
+pub use tables::{MOST_BLOCKS, MOST_HEADS, Parts, Tables};

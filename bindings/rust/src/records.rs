@@ -1,0 +1,132 @@
+use crate::raw;
+use std::fmt;
+
+/// The number that names no slot. It is also the sequence of an empty block slot, which no block may
+/// have.
+pub const NONE_REF: u32 = u32::MAX;
+
+/// The 32 bytes of a hash. Hashes are ordered from their first byte on.
+pub type Hash = [u8; 32];
+
+/// A place in the block table.
+#[derive(Debug, Clone, Copy, PartialEq, Eq, PartialOrd, Ord, Hash)]
+pub struct BlockSlot(pub u32);
+
+/// A place in the head table.
+#[derive(Debug, Clone, Copy, PartialEq, Eq, PartialOrd, Ord, Hash)]
+pub struct HeadSlot(pub u32);
+
+/// A block's sequence number. A parent's is one lower than its child's.
+#[derive(Debug, Clone, Copy, PartialEq, Eq, PartialOrd, Ord, Hash)]
+pub struct Sequence(pub u32);
+
+impl fmt::Display for BlockSlot {
+    fn fmt(&self, f: &mut fmt::Formatter) -> fmt::Result {
+        self.0.fmt(f)
+    }
+}
+
+impl fmt::Display for HeadSlot {
+    fn fmt(&self, f: &mut fmt::Formatter) -> fmt::Result {
+        self.0.fmt(f)
+    }
+}
+
+impl fmt::Display for Sequence {
+    fn fmt(&self, f: &mut fmt::Formatter) -> fmt::Result {
+        self.0.fmt(f)
+    }
+}
+
+/// A stored block.
+#[derive(Debug, Clone, Copy, PartialEq, Eq)]
+pub struct Block {
+    /// The block's own hash.
+    pub hash: Hash,
+    /// The slot of its parent, if that is there.
+    pub parent: Option<BlockSlot>,
+    /// Its sequence number.
+    pub sequence: Sequence,
+    /// How many children keep it, 1 for a tip. On the active chain it may be another number.
+    pub count: u8,
+    /// Whether it is on the active chain.
+    pub active: bool,
+}
+
+/// How far the station has come with a block.
+#[derive(Debug, Clone, Copy, PartialEq, Eq)]
+pub enum Status {
+    /// Stored alone.
+    Stored,
+    /// Connected to the active chain.
+    Connected,
+    /// On the active chain.
+    Active,
+}
+
+/// A head: the tip of a branch, and where the branch stands.
+#[derive(Debug, Clone, Copy, PartialEq, Eq)]
+pub struct Head {
+    /// The head's own slot.
+    pub slot: HeadSlot,
+    /// The slot of the branch's last block.
+    pub tip: BlockSlot,
+    /// Where the tip's parent walk first meets the active chain, or else where it ends.
+    pub anchor: Option<BlockSlot>,
+    /// Whether that walk meets the active chain; otherwise the head is stored.
+    pub connected: bool,
+    /// The hash of the block that a stored head waits for.
+    pub missing: Hash,
+    /// When that block was last asked for, 0 for never.
+    pub requested: u64,
+    /// When the head's last block came.
+    pub arrival: u64,
+}
+
+/// Where a parent walk ends.
+#[derive(Debug, Clone, Copy, PartialEq, Eq)]
+pub enum Anchor {
+    /// At the first block on the active chain.
+    Connection(BlockSlot),
+    /// At the last block of a walk that does not meet the active chain.
+    Tail(BlockSlot),
+}
+
+/// A missing block to ask for.
+#[derive(Debug, Clone, Copy, PartialEq, Eq)]
+pub struct Request {
+    /// The stored head that waits for it.
+    pub head: HeadSlot,
+    /// The sequence that it should have.
+    pub sequence: Sequence,
+    /// Its hash.
+    pub hash: Hash,
+}
+
+/// The weight of a branch.
+///
+/// ```
+/// use station::Rank;
+///
+/// let heavy = Rank { value: 9, length: 3, hash: [2; 32] };
+/// let light = Rank { value: 8, length: 7, hash: [1; 32] };
+/// assert!(heavy.outranks(&light));
+/// ```
+#[derive(Debug, Clone, Copy, PartialEq, Eq)]
+pub struct Rank {
+    /// The value of the branch.
+    pub value: u64,
+    /// Its length, which settles equal values.
+    pub length: u16,
+    /// The hash of its tip, which settles equal lengths.
+    pub hash: Hash,
+}
+
+impl Rank {
+    /// Whether this branch goes before the other: by higher value, then greater length, then lower
+    /// hash.
+    pub fn outranks(&self, other: &Rank) -> bool {
+        let &Rank { value, length, ref hash } = self;
+        raw::station_outranks(value, length, hash, other.value, other.length, &other.hash) == 1
+    }
+}

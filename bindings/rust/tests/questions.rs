@@ -1,0 +1,213 @@
+//! The questions, on the tables of the scope's trial and on damaged ones.
+
+use station::{
+    Anchor, Block, BlockSlot, Head, HeadSlot, NONE_REF, Parts, Rank, Refusal, Request, Sequence,
+    Status, Tables,
+};
+
+fn hash(byte: u8) -> [u8; 32] {
+    [byte; 32]
+}
+
+/// Slots 0, 2 and 3 hold blocks, 0 is the active head and the parent of 2.
+fn after_the_trial() -> Result<Tables, Refusal> {
+    let mut tables = Tables::new(4, 2)?;
+    tables.admit(Sequence(5), &hash(0x0a), &hash(0x09), 1)?;
+    tables.admit(Sequence(6), &hash(0x0b), &hash(0x0a), 2)?;
+    tables.admit(Sequence(6), &hash(0x0c), &hash(0x0a), 3)?;
+    let asked = Request { head: HeadSlot(0), sequence: Sequence(4), hash: hash(0x09) };
+    assert_eq!(tables.timer(10, Some(5))?, Some(asked));
+    tables.promote(BlockSlot(0))?;
+    tables.admit(Sequence(7), &hash(0x0d), &hash(0x0e), 20)?;
+    Ok(tables)
+}
+
+#[test]
+fn blocks() -> Result<(), Refusal> {
+    let tables = after_the_trial()?;
+    let block = |byte, parent: Option<u32>, sequence, active| Block {
+        hash: hash(byte),
+        parent: parent.map(BlockSlot),
+        sequence: Sequence(sequence),
+        count: 1,
+        active,
+    };
+    let blocks: Vec<(BlockSlot, Block)> = tables.blocks().collect();
+    let expected = [
+        (BlockSlot(0), block(0x0a, None, 5, true)),
+        (BlockSlot(2), block(0x0c, Some(0), 6, false)),
+        (BlockSlot(3), block(0x0d, None, 7, false)),
+    ];
+    assert_eq!(blocks, expected);
+    assert_eq!(tables.get(BlockSlot(1)), None);
+    assert_eq!(tables.get(BlockSlot(4)), None);
+    assert_eq!(tables.active_head(), Some(BlockSlot(0)));
+    assert_eq!((tables.block_slots(), tables.head_slots()), (4, 2));
+    Ok(())
+}
+
+#[test]
+fn searches() -> Result<(), Refusal> {
+    let tables = after_the_trial()?;
+    assert_eq!(tables.find(Sequence(6), &hash(0x0c)), Some(BlockSlot(2)));
+    assert_eq!(tables.find(Sequence(6), &hash(0x0b)), None);
+    assert_eq!(tables.find(Sequence(5), &hash(0x0c)), None);
+    assert_eq!(tables.find_parent(&hash(0x0a), Sequence(6)), Some(BlockSlot(0)));
+    assert_eq!(tables.find_parent(&hash(0x0a), Sequence(5)), None);
+    assert_eq!(tables.find_parent(&hash(0x0a), Sequence(0)), None);
+    assert_eq!(tables.next_free(), Some(BlockSlot(1)));
+    assert_eq!(tables.head_ref_count(BlockSlot(2)), Some(1));
+    assert_eq!(tables.head_ref_count(BlockSlot(1)), None);
+    assert_eq!(tables.status(BlockSlot(0)), Some(Status::Active));
+    assert_eq!(tables.status(BlockSlot(2)), Some(Status::Stored));
+    assert_eq!(tables.status(BlockSlot(1)), None);
+    Ok(())
+}
+
+#[test]
+fn walks() -> Result<(), Refusal> {
+    let tables = after_the_trial()?;
+    assert_eq!(tables.subtree(BlockSlot(0)), [0, 2].map(BlockSlot));
+    assert_eq!(tables.subtree(BlockSlot(3)), [3].map(BlockSlot));
+    assert_eq!(tables.subtree(BlockSlot(1)), []);
+    assert!(tables.walks_to_active_chain(BlockSlot(2)));
+    assert!(!tables.walks_to_active_chain(BlockSlot(3)));
+    assert_eq!(tables.locate_anchor(BlockSlot(2)), Anchor::Connection(BlockSlot(0)));
+    assert_eq!(tables.locate_anchor(BlockSlot(3)), Anchor::Tail(BlockSlot(3)));
+    assert_eq!(tables.locate_anchor(BlockSlot(1)), Anchor::Tail(BlockSlot(1)));
+    Ok(())
+}
+
+#[test]
+fn heads() -> Result<(), Refusal> {
+    let tables = after_the_trial()?;
+    let stored = Head {
+        slot: HeadSlot(0),
+        tip: BlockSlot(3),
+        anchor: Some(BlockSlot(3)),
+        connected: false,
+        missing: hash(0x0e),
+        requested: 0,
+        arrival: 20,
+    };
+    let connected = Head {
+        slot: HeadSlot(1),
+        tip: BlockSlot(2),
+        anchor: Some(BlockSlot(0)),
+        connected: true,
+        missing: hash(0),
+        requested: 0,
+        arrival: 3,
+    };
+    assert_eq!(tables.heads().collect::<Vec<Head>>(), [stored, connected]);
+    assert_eq!(tables.head(HeadSlot(1)), Some(connected));
+    assert_eq!(tables.head(HeadSlot(2)), None);
+    assert_eq!(tables.head_count(), 2);
+    assert!(tables.has_stored_head());
+    assert_eq!(tables.head_of(BlockSlot(2)), Some(HeadSlot(1)));
+    assert_eq!(tables.head_of(BlockSlot(0)), None);
+    Ok(())
+}
+
+#[test]
+fn timers() -> Result<(), Refusal> {
+    let mut tables = after_the_trial()?;
+    assert_eq!(tables.earliest_deadline(Some(5))?, Some(0));
+    let asked = Request { head: HeadSlot(0), sequence: Sequence(6), hash: hash(0x0e) };
+    assert_eq!(tables.timer(30, Some(5))?, Some(asked));
+    assert_eq!(tables.earliest_deadline(Some(5))?, Some(35));
+    assert_eq!(tables.earliest_deadline(Some(0))?, Some(30));
+    assert_eq!(tables.earliest_deadline(Some(u64::MAX))?, Some(u64::MAX));
+    assert_eq!(tables.earliest_deadline(None)?, Some(90));
+    assert_eq!(tables.timer(34, Some(5))?, None);
+    assert_eq!(tables.timer(89, None)?, None);
+    assert_eq!(tables.timer(90, None)?, Some(asked));
+
+    tables.remove(BlockSlot(3))?;
+    assert_eq!(tables.earliest_deadline(None)?, None);
+    assert_eq!(tables.timer(u64::MAX, None)?, None);
+    Ok(())
+}
+
+#[test]
+fn fresh_tables_are_empty() -> Result<(), Refusal> {
+    let mut tables = after_the_trial()?;
+    tables.fresh()?;
+    assert_eq!(tables, Tables::new(4, 2)?);
+    assert_eq!(tables.blocks().count() + tables.heads().count(), 0);
+    assert_eq!(tables.active_head(), None);
+    assert_eq!(tables.next_free(), Some(BlockSlot(0)));
+    assert!(!tables.has_stored_head());
+    Ok(())
+}
+
+#[test]
+fn ranks() {
+    let rank = |value, length, byte| Rank { value, length, hash: hash(byte) };
+    assert!(rank(2, 0, 9).outranks(&rank(1, 9, 0)));
+    assert!(rank(1, 9, 9).outranks(&rank(1, 8, 0)));
+    assert!(rank(1, 9, 0).outranks(&rank(1, 9, 1)));
+    assert!(!rank(1, 9, 1).outranks(&rank(1, 9, 0)));
+    assert!(!rank(1, 9, 1).outranks(&rank(1, 9, 1)));
+    let low_first = Rank { hash: std::array::from_fn(|i| i as u8), ..rank(1, 9, 0) };
+    let low_last = Rank { hash: std::array::from_fn(|i| 31 - i as u8), ..rank(1, 9, 0) };
+    assert!(low_first.outranks(&low_last));
+}
+
+/// What a buffer is too short for reads as in an empty slot.
+#[test]
+fn damaged_tables() {
+    let tables = Tables::from_parts(Parts {
+        hashes: vec![7; 40],
+        parents: vec![1],
+        sequences: vec![5, 4, NONE_REF],
+        counts: vec![],
+        flags: vec![0, 0b111],
+        tips: vec![0, 9],
+        tails: vec![],
+        missing: vec![8; 33],
+        requested: vec![6],
+        arrivals: vec![],
+        connected: vec![3],
+        active: 77,
+    });
+    let mut cut = [0; 32];
+    cut[..8].fill(7);
+    let blocks: Vec<Block> = tables.blocks().map(|(_, block)| block).collect();
+    let first = Block {
+        hash: hash(7),
+        parent: Some(BlockSlot(1)),
+        sequence: Sequence(5),
+        count: 0,
+        active: false,
+    };
+    let second = Block { hash: cut, parent: None, sequence: Sequence(4), count: 0, active: true };
+    assert_eq!(blocks, [first, second]);
+    assert_eq!(tables.status(BlockSlot(1)), Some(Status::Stored));
+    assert_eq!(tables.subtree(BlockSlot(1)), [0, 1].map(BlockSlot));
+    assert_eq!(tables.locate_anchor(BlockSlot(0)), Anchor::Connection(BlockSlot(1)));
+
+    let heads: Vec<Head> = tables.heads().collect();
+    let mut cut = [0; 32];
+    cut[0] = 8;
+    let first = Head {
+        slot: HeadSlot(0),
+        tip: BlockSlot(0),
+        anchor: None,
+        connected: true,
+        missing: hash(8),
+        requested: 6,
+        arrival: 0,
+    };
+    let second = Head {
+        slot: HeadSlot(1),
+        tip: BlockSlot(9),
+        connected: false,
+        missing: cut,
+        requested: 0,
+        ..first
+    };
+    assert_eq!(heads, [first, second]);
+    assert_eq!(tables.head_count(), 2);
+    assert_eq!(tables.active_head(), Some(BlockSlot(77)));
+}

@@ -1,0 +1,179 @@
+//! Each refusal by its number, in its order, with the tables left as they stood.
+
+use station::{BlockSlot, MOST_BLOCKS, MOST_HEADS, Parts, Refusal, Sequence, Tables};
+use std::collections::HashSet;
+use std::error::Error;
+
+const A: [u8; 32] = [0x0a; 32];
+const B: [u8; 32] = [0x0b; 32];
+const ZERO: [u8; 32] = [0; 32];
+
+/// The number of the refusal, of a call that leaves the tables.
+fn refused<T: std::fmt::Debug>(
+    tables: &mut Tables,
+    call: impl FnOnce(&mut Tables) -> Result<T, Refusal>,
+) -> u32 {
+    let before = tables.clone();
+    let refusal = call(tables).expect_err("a refusal");
+    assert_eq!(*tables, before);
+    refusal.number()
+}
+
+fn refused_admit(tables: &mut Tables, sequence: u32, hash: &[u8], previous: &[u8]) -> u32 {
+    refused(tables, |t| t.admit(Sequence(sequence), hash, previous, 1))
+}
+
+#[test]
+fn sizes() {
+    for (blocks, heads) in [(1, 2), (1, 64), (1_024, 2), (MOST_BLOCKS, MOST_HEADS)] {
+        assert!(Tables::new(blocks, heads).is_ok(), "{blocks} {heads}");
+    }
+    for (blocks, heads) in
+        [(0, 2), (1_025, 2), (1, 0), (1, 1), (1, 65), (usize::MAX, 2), (1, usize::MAX)]
+    {
+        assert_eq!(Tables::new(blocks, heads), Err(Refusal::Shape), "{blocks} {heads}");
+    }
+}
+
+type Change = fn(&mut Parts);
+
+fn shorten<T>(buffer: &mut Vec<T>) {
+    buffer.pop();
+}
+
+fn lengthen<T: Default>(buffer: &mut Vec<T>) {
+    buffer.push(T::default());
+}
+
+#[test]
+fn shape_1_whichever_buffer_does_not_fit() {
+    let changes: [Change; 22] = [
+        |p| shorten(&mut p.hashes),
+        |p| lengthen(&mut p.hashes),
+        |p| shorten(&mut p.parents),
+        |p| lengthen(&mut p.parents),
+        |p| shorten(&mut p.sequences),
+        |p| lengthen(&mut p.sequences),
+        |p| shorten(&mut p.counts),
+        |p| lengthen(&mut p.counts),
+        |p| shorten(&mut p.flags),
+        |p| lengthen(&mut p.flags),
+        |p| shorten(&mut p.tips),
+        |p| lengthen(&mut p.tips),
+        |p| shorten(&mut p.tails),
+        |p| lengthen(&mut p.tails),
+        |p| shorten(&mut p.missing),
+        |p| lengthen(&mut p.missing),
+        |p| shorten(&mut p.requested),
+        |p| lengthen(&mut p.requested),
+        |p| shorten(&mut p.arrivals),
+        |p| lengthen(&mut p.arrivals),
+        |p| shorten(&mut p.connected),
+        |p| lengthen(&mut p.connected),
+    ];
+    let mut whole = Tables::new(4, 2).unwrap();
+    whole.admit(Sequence(5), &A, &ZERO, 1).unwrap();
+    for (which, change) in changes.into_iter().enumerate() {
+        let mut parts = whole.clone().into_parts();
+        change(&mut parts);
+        let mut tables = Tables::from_parts(parts);
+        let t = &mut tables;
+        assert_eq!(refused(t, Tables::fresh), 1, "fresh: {which}");
+        assert_eq!(refused_admit(t, 6, &B, &A), 1, "admit: {which}");
+        assert_eq!(refused(t, |t| t.promote(BlockSlot(0))), 1, "promote: {which}");
+        assert_eq!(refused(t, |t| t.remove(BlockSlot(0))), 1, "remove: {which}");
+        assert_eq!(refused(t, |t| t.timer(1, None)), 1, "timer: {which}");
+        assert_eq!(refused(t, |t| t.earliest_deadline(None)), 1, "deadline: {which}");
+        assert_eq!(refused(t, |t| t.restart(1)), 1, "restart: {which}");
+    }
+}
+
+#[test]
+fn hash_length_2() {
+    let mut tables = Tables::new(4, 2).unwrap();
+    assert_eq!(refused_admit(&mut tables, 5, &[1; 31], &A), 2);
+    assert_eq!(refused_admit(&mut tables, 5, &[1; 33], &A), 2);
+    assert_eq!(refused_admit(&mut tables, 5, &[], &A), 2);
+    assert_eq!(refused_admit(&mut tables, 5, &A, &[1; 31]), 2);
+    assert_eq!(refused_admit(&mut tables, 5, &A, &[]), 2);
+    assert_eq!(refused_admit(&mut tables, u32::MAX, &[0; 31], &A), 2, "before 4 and 5");
+}
+
+#[test]
+fn no_block_3() {
+    let mut tables = Tables::new(4, 2).unwrap();
+    for slot in [0, 3, 4, u32::MAX].map(BlockSlot) {
+        assert_eq!(refused(&mut tables, |t| t.promote(slot)), 3, "{slot}");
+        assert_eq!(refused(&mut tables, |t| t.remove(slot)), 3, "{slot}");
+    }
+}
+
+#[test]
+fn reserved_sequence_4() {
+    let mut tables = Tables::new(4, 2).unwrap();
+    assert_eq!(refused_admit(&mut tables, u32::MAX, &A, &B), 4);
+    assert_eq!(refused_admit(&mut tables, u32::MAX, &ZERO, &B), 4, "before 5");
+    assert!(tables.admit(Sequence(u32::MAX - 1), &A, &B, 1).is_ok());
+}
+
+#[test]
+fn zero_hash_5() {
+    let mut tables = Tables::new(1, 2).unwrap();
+    assert_eq!(refused_admit(&mut tables, 5, &ZERO, &A), 5);
+    assert!(tables.admit(Sequence(5), &A, &ZERO, 1).is_ok(), "a zero previous hash is allowed");
+    assert_eq!(refused_admit(&mut tables, 5, &ZERO, &A), 5, "before 7");
+}
+
+#[test]
+fn known_6() {
+    let mut tables = Tables::new(1, 2).unwrap();
+    tables.admit(Sequence(5), &A, &ZERO, 1).unwrap();
+    assert_eq!(refused_admit(&mut tables, 5, &A, &B), 6, "before 7");
+}
+
+#[test]
+fn full_7() {
+    let mut tables = Tables::new(1, 2).unwrap();
+    tables.admit(Sequence(5), &A, &ZERO, 1).unwrap();
+    assert_eq!(refused_admit(&mut tables, 6, &A, &ZERO), 7);
+    assert_eq!(refused_admit(&mut tables, 5, &B, &ZERO), 7);
+}
+
+#[test]
+fn not_next_8() {
+    let mut tables = Tables::new(4, 2).unwrap();
+    let first = tables.admit(Sequence(5), &A, &ZERO, 1).unwrap();
+    let second = tables.admit(Sequence(6), &B, &A, 2).unwrap();
+    let third = tables.admit(Sequence(7), &A, &B, 3).unwrap();
+    tables.promote(first).unwrap();
+    assert_eq!(refused(&mut tables, |t| t.promote(third)), 8);
+    assert_eq!(refused(&mut tables, |t| t.promote(first)), 8);
+    tables.promote(second).unwrap();
+    assert_eq!(tables.active_head(), Some(second));
+}
+
+#[test]
+fn holds_active_9() {
+    let mut tables = Tables::new(4, 2).unwrap();
+    let first = tables.admit(Sequence(5), &A, &ZERO, 1).unwrap();
+    let second = tables.admit(Sequence(6), &B, &A, 2).unwrap();
+    tables.promote(second).unwrap();
+    assert_eq!(refused(&mut tables, |t| t.remove(second)), 9);
+    assert_eq!(refused(&mut tables, |t| t.remove(first)), 9, "below an active block");
+}
+
+#[test]
+fn numbers_and_words() {
+    let numbers: Vec<u32> = Refusal::ALL.into_iter().map(Refusal::number).collect();
+    assert_eq!(numbers, (1..=9).collect::<Vec<u32>>());
+    for refusal in Refusal::ALL {
+        assert_eq!(Refusal::from_number(refusal.number()), Some(refusal));
+    }
+    assert_eq!(Refusal::from_number(0), None);
+    assert_eq!(Refusal::from_number(10), None);
+
+    let words: HashSet<String> = Refusal::ALL.iter().map(Refusal::to_string).collect();
+    assert_eq!(words.len(), 9);
+    let error: Box<dyn Error> = Refusal::Full.into();
+    assert_eq!(error.to_string(), "no block slot is empty");
+}

@@ -1,0 +1,141 @@
+//! The calls as both sides have them, and lists of one kind of call.
+
+use crate::tables::{Hash, Tables};
+use std::hint::black_box;
+
+pub type Refusal = u8;
+
+/// What an admit takes.
+#[derive(Clone)]
+pub struct Block {
+    pub sequence: u32,
+    pub hash: Hash,
+    pub previous: Hash,
+    pub arrival: u64,
+}
+
+#[derive(Debug, PartialEq, Eq)]
+pub struct Asked {
+    pub head: u32,
+    pub missing: Hash,
+    pub claimed: u32,
+}
+
+/// The original or the port, with its tables and the record.
+pub trait Side {
+    fn fresh(&mut self) -> Result<(), Refusal>;
+    fn admit(&mut self, block: &Block) -> Result<u32, Refusal>;
+    fn promote(&mut self, slot: u32) -> Result<(), Refusal>;
+    fn remove(&mut self, slot: u32) -> Result<u32, Refusal>;
+    fn timer(&mut self, now: u64, span: Option<u64>) -> Result<Option<Asked>, Refusal>;
+    fn deadline(&mut self, span: Option<u64>) -> Result<Option<u64>, Refusal>;
+    fn restart(&mut self, now: u64) -> Result<(), Refusal>;
+
+    /// Takes the tables and the record of the other.
+    fn restore(&mut self, from: &Self);
+    fn show(&self) -> Tables;
+}
+
+#[derive(Debug, PartialEq, Eq)]
+pub enum Answer {
+    Done,
+    Number(u32),
+    Asked(Option<Asked>),
+    Due(Option<u64>),
+}
+
+impl From<()> for Answer {
+    fn from(_: ()) -> Answer {
+        Answer::Done
+    }
+}
+
+impl From<u32> for Answer {
+    fn from(number: u32) -> Answer {
+        Answer::Number(number)
+    }
+}
+
+impl From<Option<Asked>> for Answer {
+    fn from(asked: Option<Asked>) -> Answer {
+        Answer::Asked(asked)
+    }
+}
+
+impl From<Option<u64>> for Answer {
+    fn from(time: Option<u64>) -> Answer {
+        Answer::Due(time)
+    }
+}
+
+/// Who gets the replies of a list.
+pub trait Taker {
+    fn take<A: Into<Answer>>(&mut self, reply: Result<A, Refusal>);
+}
+
+impl Taker for Vec<Result<Answer, Refusal>> {
+    fn take<A: Into<Answer>>(&mut self, reply: Result<A, Refusal>) {
+        self.push(reply.map(A::into));
+    }
+}
+
+/// Looks at no reply; none is optimised away.
+pub struct Unread;
+
+impl Taker for Unread {
+    fn take<A: Into<Answer>>(&mut self, reply: Result<A, Refusal>) {
+        _ = black_box(reply);
+    }
+}
+
+/// Calls of one kind, so that nothing chooses between calls while they are timed.
+pub enum List {
+    Fresh(usize),
+    Admit(Vec<Block>),
+    Promote(Vec<u32>),
+    Remove(Vec<u32>),
+    Timer(Vec<(u64, Option<u64>)>),
+    Deadline(Vec<Option<u64>>),
+    Restart(Vec<u64>),
+}
+
+impl List {
+    pub fn len(&self) -> usize {
+        match self {
+            List::Fresh(times) => *times,
+            List::Admit(calls) => calls.len(),
+            List::Promote(slots) | List::Remove(slots) => slots.len(),
+            List::Timer(calls) => calls.len(),
+            List::Deadline(spans) => spans.len(),
+            List::Restart(times) => times.len(),
+        }
+    }
+
+    pub fn run(&self, side: &mut impl Side, taker: &mut impl Taker) {
+        match self {
+            List::Fresh(times) => (0..*times).for_each(|_| taker.take(side.fresh())),
+            List::Admit(calls) => calls.iter().for_each(|c| taker.take(side.admit(black_box(c)))),
+            List::Promote(calls) => {
+                calls.iter().for_each(|c| taker.take(side.promote(black_box(*c))))
+            }
+            List::Remove(calls) => {
+                calls.iter().for_each(|c| taker.take(side.remove(black_box(*c))))
+            }
+            List::Timer(calls) => {
+                calls.iter().for_each(|c| taker.take(side.timer(black_box(c.0), c.1)))
+            }
+            List::Deadline(calls) => {
+                calls.iter().for_each(|c| taker.take(side.deadline(black_box(*c))))
+            }
+            List::Restart(calls) => {
+                calls.iter().for_each(|c| taker.take(side.restart(black_box(*c))))
+            }
+        }
+    }
+
+    pub fn replies(&self, side: &mut impl Side) -> Vec<Result<Answer, Refusal>> {
+        let mut replies = Vec::new();
+        self.run(side, &mut replies);
+        replies
+    }
+}

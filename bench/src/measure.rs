@@ -1,0 +1,99 @@
+//! A case on both sides: first whether they agree, then how long each takes, in turn.
+
+use crate::calls::{List, Side, Unread};
+use crate::cases::Case;
+use std::time::{Duration, Instant};
+
+/// How long a case may be measured, and how often at most.
+#[derive(Clone, Copy)]
+pub struct Effort {
+    pub time: Duration,
+    pub turns: usize,
+}
+
+/// Nanoseconds a call, of one turn after the other.
+pub struct Times {
+    pub rust: Vec<f64>,
+    pub port: Vec<f64>,
+}
+
+/// One side before and after the calls of a case; the second is worked upon.
+pub struct Pair<S> {
+    start: S,
+    work: S,
+}
+
+impl<S: Side> Pair<S> {
+    pub fn new(mut start: S, work: S, setup: &[List]) -> Pair<S> {
+        for list in setup {
+            assert!(list.replies(&mut start).iter().all(Result::is_ok), "a setup call is refused");
+        }
+        Pair { start, work }
+    }
+
+    /// The tables of the start, to be worked upon.
+    pub fn restored(&mut self) -> &mut S {
+        self.work.restore(&self.start);
+        &mut self.work
+    }
+
+    fn time(&mut self, list: &List, clock: Duration) -> f64 {
+        let side = self.restored();
+        let start = Instant::now();
+        list.run(side, &mut Unread);
+        start.elapsed().saturating_sub(clock).as_nanos() as f64 / list.len() as f64
+    }
+}
+
+/// Both sides start and end with the same tables, and reply the same.
+pub fn agree<A: Side, B: Side>(rust: &mut Pair<A>, port: &mut Pair<B>, case: &Case) {
+    assert!(rust.start.show() == port.start.show(), "the tables differ before the list");
+    let (a, b) = (rust.restored(), port.restored());
+    let replies = case.timed.replies(a);
+    assert_eq!(replies, case.timed.replies(b), "the replies differ");
+    assert!(a.show() == b.show(), "the tables differ after the list");
+    let expected = |reply: &Result<_, u8>| reply.as_ref().err().copied() == case.refusal;
+    assert!(replies.iter().all(expected), "a call is refused, or not: {replies:?}");
+}
+
+pub fn measure<A: Side, B: Side>(
+    rust: &mut Pair<A>,
+    port: &mut Pair<B>,
+    list: &List,
+    effort: Effort,
+) -> Times {
+    let clock = clock();
+    let mut times = Times { rust: Vec::new(), port: Vec::new() };
+    let end = Instant::now() + effort.time;
+    for turn in 0.. {
+        let (a, b);
+        if turn % 2 == 0 {
+            a = rust.time(list, clock);
+            b = port.time(list, clock);
+        } else {
+            b = port.time(list, clock);
+            a = rust.time(list, clock);
+        }
+        if turn >= WARMING {
+            times.rust.push(a);
+            times.port.push(b);
+        }
+        let enough = times.rust.len() >= LEAST;
+        if enough && (times.rust.len() >= effort.turns || Instant::now() > end) {
+            break;
+        }
+    }
+    times
+}
+
+/// Turns that do not count.
+const WARMING: usize = 4;
+
+const LEAST: usize = 21;
+
+/// What it takes to read the clock twice.
+fn clock() -> Duration {
+    let mut times: Vec<Duration> = (0..1001).map(|_| Instant::now().elapsed()).collect();
+    times.sort();
+    times[times.len() / 2]
+}

@@ -1,50 +1,28 @@
-//! Copies the original's files, unchanged, to the build folder, and declares after each a child
-//! module of ours, which so reaches the private fields and functions; and links the port's static
-//! libraries.
+//! Brings in the original's files, and links the port's static libraries.
 
+mod original;
+
+use std::env;
 use std::path::Path;
-use std::{env, fs, process};
 
-/// The original's file, our child module of it, and what else the file needs.
-const FILES: [(&str, &str, &str); 3] = [
+const FILES: [original::File; 3] = [
     ("blocks", "blocks.rs", ""),
     ("chain_heads", "heads.rs", ""),
     ("branch_value", "rank.rs", "use judged::moonblokz_chain_types;"),
 ];
 
 fn main() {
+    original::copy(&FILES, "judged");
     let here = env::var("CARGO_MANIFEST_DIR").expect("cargo sets it");
-    let out = env::var("OUT_DIR").expect("cargo sets it");
-    let source = Path::new(&here).join("../../shared/docs/src/src");
     let archive = Path::new(&here).join("../target/staticlib");
-
-    let mut modules = String::new();
-    for (name, child, more) in FILES {
-        let file = source.join(name).with_extension("rs");
-        let text = fs::read_to_string(&file)
-            .unwrap_or_else(|e| stop(&format!("the original's {}: {e}", file.display())));
-        let copy = Path::new(&out).join(name).with_extension("rs");
-        let child = Path::new(&here).join("src/original").join(child);
-        let whole = format!("{text}\n#[path = {child:?}]\npub(crate) mod judged;\n{more}\n");
-        fs::write(&copy, whole).expect("the build folder is written");
-        modules += &format!("#[path = {copy:?}]\n#[allow(dead_code)]\nmod {name};\n");
-        println!("cargo::rerun-if-changed={}", file.display());
-    }
-    fs::write(Path::new(&out).join("modules.rs"), modules).expect("the build folder is written");
-
     for name in ["probe", "station"] {
         let library = archive.join(format!("lib{name}.a"));
         if !library.exists() {
-            stop(&format!("no {}: `rt staticlib {name}` makes it", library.display()));
+            let message = format!("no {}: `rt staticlib {name}` makes it", library.display());
+            original::stop(&message);
         }
         println!("cargo::rerun-if-changed={}", library.display());
         println!("cargo::rustc-link-lib=static={name}");
     }
-    println!("cargo::rerun-if-changed=build.rs");
     println!("cargo::rustc-link-search=native={}", archive.display());
-}
-
-fn stop(message: &str) -> ! {
-    println!("cargo::error={message}");
-    process::exit(1)
 }

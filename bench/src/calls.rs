@@ -1,6 +1,6 @@
 //! The calls as both sides have them, and lists of one kind of call.
 
-use crate::tables::{Hash, Tables};
+use station::{Hash, Parts};
 use std::hint::black_box;
 
 pub type Refusal = u8;
@@ -33,7 +33,7 @@ pub trait Side {
 
     /// Takes the tables and the record of the other.
     fn restore(&mut self, from: &Self);
-    fn show(&self) -> Tables;
+    fn show(&self) -> Parts;
 }
 
 #[derive(Debug, PartialEq, Eq)]

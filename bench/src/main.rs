@@ -10,9 +10,9 @@ mod rust;
 mod shape;
 mod sizes;
 mod stack;
+#[path = "../../oracle/src/stand_ins.rs"]
 mod stand_ins;
 mod stats;
-mod tables;
 mod tree;
 
 use cases::Kind;
@@ -67,7 +67,7 @@ fn compare(plan: &Plan) {
     report::growth(&lines, 16);
     println!("\n### Memory\n");
     let rust = (blocks::timed::BLOCK_BYTES, chain_heads::timed::HEAD_BYTES);
-    report::memory(rust, (tables::BLOCK_BYTES, tables::HEAD_BYTES));
+    report::memory(rust, (port::BLOCK_BYTES, port::HEAD_BYTES));
     println!("\n### Stack\n");
     println!("Bytes of the deepest call, its arguments and return address among them.\n");
     report::stacks(&stacks(plan));

@@ -5,7 +5,7 @@ use crate::blocks::{BlockEntry, BlockTable};
 use crate::calls::{Asked, Block, Refusal, Side};
 use crate::chain_heads::ChainHeadsTable;
 use crate::staged_validation::BlockStatus;
-use crate::tables::{Hash, NONE_REF, Tables};
+use station::{Hash, NONE_REF, Parts};
 
 /// The retry span of a call that gives none.
 const TICKS: u64 = 60;
@@ -112,8 +112,21 @@ impl<const N: usize, const M: usize> Side for Rust<N, M> {
         self.active = from.active;
     }
 
-    fn show(&self) -> Tables {
-        let mut t = Tables { active: self.active, ..Tables::default() };
+    fn show(&self) -> Parts {
+        let mut t = Parts {
+            hashes: vec![],
+            parents: vec![],
+            sequences: vec![],
+            counts: vec![],
+            flags: vec![],
+            tips: vec![],
+            tails: vec![],
+            missing: vec![],
+            requested: vec![],
+            arrivals: vec![],
+            connected: vec![],
+            active: self.active,
+        };
         self.blocks.show(&mut t);
         self.heads.show(&mut t);
         t

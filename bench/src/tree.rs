@@ -2,7 +2,7 @@
 //! block's slot is the number of those before it.
 
 use crate::calls::Block;
-use crate::tables::Hash;
+use station::Hash;
 
 /// A block of the tree.
 #[derive(Clone, Copy)]

@@ -1,7 +1,7 @@
 //! A child module of the original's blocks.rs: copies of its table, and its fields in the common form.
 
 use super::{BlockEntry, BlockTable};
-use crate::tables::Tables;
+use station::Parts;
 
 impl Clone for BlockEntry {
     fn clone(&self) -> BlockEntry {
@@ -25,7 +25,7 @@ impl<const N: usize> BlockTable<N> {
         self.blocks.clone_from_slice(&from.blocks);
     }
 
-    pub(crate) fn show(&self, t: &mut Tables) {
+    pub(crate) fn show(&self, t: &mut Parts) {
         for entry in &self.blocks {
             t.hashes.extend(entry.hash);
             t.parents.push(entry.parent_ref);

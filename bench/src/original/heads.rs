@@ -3,7 +3,7 @@
 
 use super::{ChainHeadEntry, ChainHeadsTable};
 use crate::blocks::{BlockTable, NONE_REF};
-use crate::tables::Tables;
+use station::Parts;
 
 impl Clone for ChainHeadEntry {
     fn clone(&self) -> ChainHeadEntry {
@@ -38,7 +38,7 @@ impl<const M: usize> ChainHeadsTable<M> {
         self.heads.clone_from_slice(&from.heads);
     }
 
-    pub(crate) fn show(&self, t: &mut Tables) {
+    pub(crate) fn show(&self, t: &mut Parts) {
         for entry in &self.heads {
             t.tips.push(entry.head_idx);
             t.tails.push(entry.tail_or_connection_idx);

@@ -1,8 +1,11 @@
 // Each line's call, and the line that it prints.
+use recorded::Recorded;
+use rules::Admitted;
 use rules::BlockSlot;
 use rules::Outcome;
-use rules::Sequence;
+use rules::Removed;
 use rules::Span;
+use rules::TimerAnswer;
 use trial_lines::Line;
 use trial_lines::answers::admit_line;
 use trial_lines::answers::fresh_line;
@@ -25,16 +28,6 @@ pub fn say(out: &[u8], length: usize) {
     }
 }
 
-pub fn unread(active: u32) -> Called {
-    let mut out = [0u8; 96];
-    let length = letter_line(&mut out, b'?');
-    say(&out, length);
-    Called {
-        active,
-        refused: false,
-    }
-}
-
 fn is_refused(outcome: Outcome) -> bool {
     match outcome {
         Outcome::Done => false,
@@ -42,35 +35,8 @@ fn is_refused(outcome: Outcome) -> bool {
     }
 }
 
-fn fresh(
-    hashes: &mut [u8],
-    parents: &mut [u32],
-    sequences: &mut [u32],
-    counts: &mut [u8],
-    flags: &mut [u8],
-    tips: &mut [u32],
-    tails: &mut [u32],
-    missing: &mut [u8],
-    requested: &mut [u64],
-    arrivals: &mut [u64],
-    connected: &mut [u8],
-    active: u32,
-) -> Called {
+fn say_fresh(recorded: Recorded) -> Called {
     let mut out = [0u8; 96];
-    let recorded = fresh_call::fresh_at(
-        hashes,
-        parents,
-        sequences,
-        counts,
-        flags,
-        tips,
-        tails,
-        missing,
-        requested,
-        arrivals,
-        connected,
-        active,
-    );
     let outcome = recorded.outcome;
     let length = fresh_line(&mut out, outcome);
     say(&out, length);
@@ -80,45 +46,8 @@ fn fresh(
     }
 }
 
-fn admit(
-    hashes: &mut [u8],
-    parents: &mut [u32],
-    sequences: &mut [u32],
-    counts: &mut [u8],
-    flags: &mut [u8],
-    tips: &mut [u32],
-    tails: &mut [u32],
-    missing: &mut [u8],
-    requested: &mut [u64],
-    arrivals: &mut [u64],
-    connected: &mut [u8],
-    active: u32,
-    sequence: Sequence,
-    hash: u8,
-    previous: u8,
-    arrival: u64,
-) -> Called {
+fn say_admit(active: u32, answer: Admitted) -> Called {
     let mut out = [0u8; 96];
-    let own = [hash; 32];
-    let before = [previous; 32];
-    let answer = admit_call::admit(
-        hashes,
-        parents,
-        sequences,
-        counts,
-        flags,
-        tips,
-        tails,
-        missing,
-        requested,
-        arrivals,
-        connected,
-        BlockSlot(active),
-        sequence,
-        &own,
-        &before,
-        arrival,
-    );
     let length = admit_line(&mut out, answer);
     say(&out, length);
     Called {
@@ -127,37 +56,8 @@ fn admit(
     }
 }
 
-fn promote(
-    hashes: &[u8],
-    parents: &[u32],
-    sequences: &[u32],
-    counts: &[u8],
-    flags: &mut [u8],
-    tips: &[u32],
-    tails: &mut [u32],
-    missing: &mut [u8],
-    requested: &mut [u64],
-    arrivals: &[u64],
-    connected: &mut [u8],
-    active: u32,
-    slot: BlockSlot,
-) -> Called {
+fn say_promote(recorded: Recorded, slot: BlockSlot) -> Called {
     let mut out = [0u8; 96];
-    let recorded = promote_call::promote_at(
-        hashes,
-        parents,
-        sequences,
-        counts,
-        flags,
-        tips,
-        tails,
-        missing,
-        requested,
-        arrivals,
-        connected,
-        active,
-        slot,
-    );
     let outcome = recorded.outcome;
     let length = promote_line(&mut out, outcome, slot);
     say(&out, length);
@@ -167,36 +67,8 @@ fn promote(
     }
 }
 
-fn remove(
-    hashes: &mut [u8],
-    parents: &mut [u32],
-    sequences: &mut [u32],
-    counts: &mut [u8],
-    flags: &mut [u8],
-    tips: &mut [u32],
-    tails: &mut [u32],
-    missing: &mut [u8],
-    requested: &mut [u64],
-    arrivals: &mut [u64],
-    connected: &mut [u8],
-    active: u32,
-    slot: BlockSlot,
-) -> Called {
+fn say_remove(active: u32, answer: Removed) -> Called {
     let mut out = [0u8; 96];
-    let answer = remove_call::remove(
-        hashes,
-        parents,
-        sequences,
-        counts,
-        flags,
-        tips,
-        tails,
-        missing,
-        requested,
-        arrivals,
-        connected,
-        slot,
-    );
     let length = remove_line(&mut out, answer);
     say(&out, length);
     Called {
@@ -205,38 +77,8 @@ fn remove(
     }
 }
 
-fn timer(
-    hashes: &[u8],
-    parents: &[u32],
-    sequences: &[u32],
-    counts: &[u8],
-    flags: &[u8],
-    tips: &[u32],
-    tails: &[u32],
-    missing: &[u8],
-    requested: &mut [u64],
-    arrivals: &[u64],
-    connected: &[u8],
-    active: u32,
-    clock: u64,
-    retry: u64,
-) -> Called {
+fn say_timer(active: u32, answer: TimerAnswer) -> Called {
     let mut out = [0u8; 96];
-    let answer = timer_call::timer(
-        hashes,
-        parents,
-        sequences,
-        counts,
-        flags,
-        tips,
-        tails,
-        missing,
-        requested,
-        arrivals,
-        connected,
-        clock,
-        Span::Ticks(retry),
-    );
     let timed = answer.timed;
     let hash = answer.missing;
     let length = timer_line(&mut out, timed, hash);
@@ -247,38 +89,19 @@ fn timer(
     }
 }
 
-fn restart(
-    hashes: &mut [u8],
-    parents: &mut [u32],
-    sequences: &mut [u32],
-    counts: &mut [u8],
-    flags: &mut [u8],
-    tips: &mut [u32],
-    tails: &mut [u32],
-    missing: &mut [u8],
-    requested: &mut [u64],
-    arrivals: &mut [u64],
-    connected: &mut [u8],
-    active: u32,
-    clock: u64,
-) -> Called {
+fn say_restart(active: u32, answer: Outcome) -> Called {
     let mut out = [0u8; 96];
-    let answer = restart_call::restart(
-        hashes,
-        parents,
-        sequences,
-        counts,
-        flags,
-        tips,
-        tails,
-        missing,
-        requested,
-        arrivals,
-        connected,
-        BlockSlot(active),
-        clock,
-    );
     let length = restart_line(&mut out, answer);
+    say(&out, length);
+    Called {
+        active,
+        refused: false,
+    }
+}
+
+fn say_unread(active: u32) -> Called {
+    let mut out = [0u8; 96];
+    let length = letter_line(&mut out, b'?');
     say(&out, length);
     Called {
         active,
@@ -302,7 +125,7 @@ pub fn call(
     line: Line,
 ) -> Called {
     match line {
-        Line::Fresh(_, _) => fresh(
+        Line::Fresh(_, _) => say_fresh(fresh_call::fresh_at(
             hashes,
             parents,
             sequences,
@@ -315,86 +138,103 @@ pub fn call(
             arrivals,
             connected,
             active,
-        ),
-        Line::Admit(sequence, hash, previous, arrival) => admit(
-            hashes,
-            parents,
-            sequences,
-            counts,
-            flags,
-            tips,
-            tails,
-            missing,
-            requested,
-            arrivals,
-            connected,
-            active,
-            sequence,
-            hash,
-            previous,
-            arrival,
-        ),
-        Line::Promote(slot) => promote(
-            hashes,
-            parents,
-            sequences,
-            counts,
-            flags,
-            tips,
-            tails,
-            missing,
-            requested,
-            arrivals,
-            connected,
-            active,
+        )),
+        Line::Admit(sequence, hash, previous, arrival) => {
+            let own = [hash; 32];
+            let before = [previous; 32];
+            say_admit(
+                active,
+                admit_call::admit(
+                    hashes,
+                    parents,
+                    sequences,
+                    counts,
+                    flags,
+                    tips,
+                    tails,
+                    missing,
+                    requested,
+                    arrivals,
+                    connected,
+                    BlockSlot(active),
+                    sequence,
+                    &own,
+                    &before,
+                    arrival,
+                ),
+            )
+        }
+        Line::Promote(slot) => say_promote(
+            promote_call::promote_at(
+                hashes,
+                parents,
+                sequences,
+                counts,
+                flags,
+                tips,
+                tails,
+                missing,
+                requested,
+                arrivals,
+                connected,
+                active,
+                slot,
+            ),
             slot,
         ),
-        Line::Remove(slot) => remove(
-            hashes,
-            parents,
-            sequences,
-            counts,
-            flags,
-            tips,
-            tails,
-            missing,
-            requested,
-            arrivals,
-            connected,
+        Line::Remove(slot) => say_remove(
             active,
-            slot,
+            remove_call::remove(
+                hashes,
+                parents,
+                sequences,
+                counts,
+                flags,
+                tips,
+                tails,
+                missing,
+                requested,
+                arrivals,
+                connected,
+                slot,
+            ),
         ),
-        Line::Timer(clock, retry) => timer(
-            hashes,
-            parents,
-            sequences,
-            counts,
-            flags,
-            tips,
-            tails,
-            missing,
-            requested,
-            arrivals,
-            connected,
+        Line::Timer(clock, retry) => say_timer(
             active,
-            clock,
-            retry,
+            timer_call::timer(
+                hashes,
+                parents,
+                sequences,
+                counts,
+                flags,
+                tips,
+                tails,
+                missing,
+                requested,
+                arrivals,
+                connected,
+                clock,
+                Span::Ticks(retry),
+            ),
         ),
-        Line::Restart(clock) => restart(
-            hashes,
-            parents,
-            sequences,
-            counts,
-            flags,
-            tips,
-            tails,
-            missing,
-            requested,
-            arrivals,
-            connected,
+        Line::Restart(clock) => say_restart(
             active,
-            clock,
+            restart_call::restart(
+                hashes,
+                parents,
+                sequences,
+                counts,
+                flags,
+                tips,
+                tails,
+                missing,
+                requested,
+                arrivals,
+                connected,
+                BlockSlot(active),
+                clock,
+            ),
         ),
-        Line::Unread => unread(active),
+        Line::Unread => say_unread(active),
     }
 }

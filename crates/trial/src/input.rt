@@ -1,342 +1,95 @@
 // Standard input, line by line. The last line may lack its end. A line longer than its buffer is unread.
-use crate::calling::unread;
-use crate::show::show;
-use crate::tables::Trial;
-use crate::tables::answer;
+use crate::tables::least;
+use trial_lines::Line;
 use trial_lines::read::read_line;
 
-// The trial so far, how many bytes of a line have come, one more than its buffer has for too many, and whether the
-// input goes on.
+// How many bytes the last read gave and how many of them are taken, how many bytes of a line have come, one more than
+// its buffer has for too many, whether the line is whole, and whether the input goes on.
 pub struct Reading {
-    pub trial: Trial,
+    pub got: usize,
+    pub taken: usize,
     pub length: usize,
+    pub whole: bool,
     pub more: bool,
 }
 
-fn end_line(
-    hashes: &mut [u8],
-    parents: &mut [u32],
-    sequences: &mut [u32],
-    counts: &mut [u8],
-    flags: &mut [u8],
-    tips: &mut [u32],
-    tails: &mut [u32],
-    missing: &mut [u8],
-    requested: &mut [u64],
-    arrivals: &mut [u64],
-    connected: &mut [u8],
-    line: &[u8],
-    reading: Reading,
-) -> Reading {
-    let trial = reading.trial;
-    let length = reading.length;
-    if line.len() < length {
-        unread(trial.active);
-        return Reading {
-            trial,
+impl Reading {
+    pub fn start() -> Reading {
+        Reading {
+            got: 0,
+            taken: 0,
             length: 0,
+            whole: false,
             more: true,
-        };
-    }
-    let after = answer(
-        hashes,
-        parents,
-        sequences,
-        counts,
-        flags,
-        tips,
-        tails,
-        missing,
-        requested,
-        arrivals,
-        connected,
-        trial,
-        read_line(&line[0..length]),
-    );
-    Reading {
-        trial: after,
-        length: 0,
-        more: true,
+        }
     }
 }
 
-fn keep(line: &mut [u8], reading: Reading, byte: u8) -> Reading {
-    let trial = reading.trial;
-    let length = reading.length;
+fn keep(line: &mut [u8], length: usize, byte: u8) -> usize {
     if line.len() <= length {
-        return Reading {
-            trial,
-            length: line.len() + 1,
-            more: true,
-        };
+        return line.len() + 1;
     }
     line[length] = byte;
+    length + 1
+}
+
+// Takes bytes up to a line's end, or all that there are.
+fn take(bytes: &[u8], line: &mut [u8], from: usize, begun: usize) -> Reading {
+    let mut taken = from;
+    let mut length = begun;
+    while taken < bytes.len() {
+        let byte = bytes[taken];
+        taken += 1;
+        if byte == b'\n' {
+            return Reading {
+                got: bytes.len(),
+                taken,
+                length,
+                whole: true,
+                more: true,
+            };
+        }
+        length = keep(line, length, byte);
+    }
     Reading {
-        trial,
-        length: length + 1,
+        got: bytes.len(),
+        taken,
+        length,
+        whole: false,
         more: true,
     }
 }
 
-fn take_byte(
-    hashes: &mut [u8],
-    parents: &mut [u32],
-    sequences: &mut [u32],
-    counts: &mut [u8],
-    flags: &mut [u8],
-    tips: &mut [u32],
-    tails: &mut [u32],
-    missing: &mut [u8],
-    requested: &mut [u64],
-    arrivals: &mut [u64],
-    connected: &mut [u8],
-    line: &mut [u8],
-    reading: Reading,
-    byte: u8,
-) -> Reading {
-    if byte != b'\n' {
-        return keep(line, reading, byte);
-    }
-    end_line(
-        hashes,
-        parents,
-        sequences,
-        counts,
-        flags,
-        tips,
-        tails,
-        missing,
-        requested,
-        arrivals,
-        connected,
-        line,
-        reading,
-    )
-}
-
-fn take_bytes(
-    hashes: &mut [u8],
-    parents: &mut [u32],
-    sequences: &mut [u32],
-    counts: &mut [u8],
-    flags: &mut [u8],
-    tips: &mut [u32],
-    tails: &mut [u32],
-    missing: &mut [u8],
-    requested: &mut [u64],
-    arrivals: &mut [u64],
-    connected: &mut [u8],
-    line: &mut [u8],
-    reading: Reading,
-    bytes: &[u8],
-) -> Reading {
-    let mut now = reading;
-    let mut i = 0;
-    while i < bytes.len() {
-        let byte = bytes[i];
-        i += 1;
-        now = take_byte(
-            hashes,
-            parents,
-            sequences,
-            counts,
-            flags,
-            tips,
-            tails,
-            missing,
-            requested,
-            arrivals,
-            connected,
-            line,
-            now,
-            byte,
-        );
-    }
-    now
-}
-
-// Reads once.
-fn take_some(
-    hashes: &mut [u8],
-    parents: &mut [u32],
-    sequences: &mut [u32],
-    counts: &mut [u8],
-    flags: &mut [u8],
-    tips: &mut [u32],
-    tails: &mut [u32],
-    missing: &mut [u8],
-    requested: &mut [u64],
-    arrivals: &mut [u64],
-    connected: &mut [u8],
-    line: &mut [u8],
-    reading: Reading,
-) -> Reading {
-    let mut buffer = [0u8; 4096];
-    let got = libc::read(libc::STDIN_FILENO, &mut buffer);
+// Reads once. What is left without its end is a line too.
+fn take_more(chunk: &mut [u8], line: &mut [u8], begun: usize) -> Reading {
+    let got = libc::read(libc::STDIN_FILENO, chunk);
     if got <= 0 {
-        let trial = reading.trial;
-        let length = reading.length;
         return Reading {
-            trial,
-            length,
+            got: 0,
+            taken: 0,
+            length: begun,
+            whole: begun != 0,
             more: false,
         };
     }
-    let n = io::count(got, &buffer);
-    take_bytes(
-        hashes,
-        parents,
-        sequences,
-        counts,
-        flags,
-        tips,
-        tails,
-        missing,
-        requested,
-        arrivals,
-        connected,
-        line,
-        reading,
-        &buffer[..n],
-    )
+    let n = io::count(got, chunk);
+    take(&chunk[..n], line, 0, begun)
 }
 
-// Nothing says that the input ends, so the turns are counted down from a number that no run uses up.
-fn take_all(
-    hashes: &mut [u8],
-    parents: &mut [u32],
-    sequences: &mut [u32],
-    counts: &mut [u8],
-    flags: &mut [u8],
-    tips: &mut [u32],
-    tails: &mut [u32],
-    missing: &mut [u8],
-    requested: &mut [u64],
-    arrivals: &mut [u64],
-    connected: &mut [u8],
-    line: &mut [u8],
-    reading: Reading,
-) -> Reading {
-    let mut turns = u64::MAX;
-    let mut now = reading;
-    while turns > 0 && now.more {
-        turns -= 1;
-        now = take_some(
-            hashes,
-            parents,
-            sequences,
-            counts,
-            flags,
-            tips,
-            tails,
-            missing,
-            requested,
-            arrivals,
-            connected,
-            line,
-            now,
-        );
+// Goes on with the line, or with the next one where it is whole. It reads only where all that came is taken.
+pub fn take_some(chunk: &mut [u8], line: &mut [u8], reading: Reading) -> Reading {
+    let begun = if reading.whole { 0 } else { reading.length };
+    let taken = reading.taken;
+    if taken < reading.got {
+        let n = least(reading.got, chunk.len());
+        return take(&chunk[0..n], line, taken, begun);
     }
-    now
+    take_more(chunk, line, begun)
 }
 
-// What is left without its end is a line too.
-fn take_last(
-    hashes: &mut [u8],
-    parents: &mut [u32],
-    sequences: &mut [u32],
-    counts: &mut [u8],
-    flags: &mut [u8],
-    tips: &mut [u32],
-    tails: &mut [u32],
-    missing: &mut [u8],
-    requested: &mut [u64],
-    arrivals: &mut [u64],
-    connected: &mut [u8],
-    line: &[u8],
-    reading: Reading,
-) -> Trial {
-    let trial = reading.trial;
-    if reading.length == 0 {
-        return trial;
+pub fn line_of(line: &[u8], length: usize) -> Line {
+    if line.len() < length {
+        return Line::Unread;
     }
-    let ended = end_line(
-        hashes,
-        parents,
-        sequences,
-        counts,
-        flags,
-        tips,
-        tails,
-        missing,
-        requested,
-        arrivals,
-        connected,
-        line,
-        reading,
-    );
-    let after = ended.trial;
-    after
-}
-
-pub fn run(
-    hashes: &mut [u8],
-    parents: &mut [u32],
-    sequences: &mut [u32],
-    counts: &mut [u8],
-    flags: &mut [u8],
-    tips: &mut [u32],
-    tails: &mut [u32],
-    missing: &mut [u8],
-    requested: &mut [u64],
-    arrivals: &mut [u64],
-    connected: &mut [u8],
-    line: &mut [u8],
-) {
-    let trial = Trial::empty();
-    let start = Reading {
-        trial,
-        length: 0,
-        more: true,
-    };
-    let read = take_all(
-        hashes,
-        parents,
-        sequences,
-        counts,
-        flags,
-        tips,
-        tails,
-        missing,
-        requested,
-        arrivals,
-        connected,
-        line,
-        start,
-    );
-    let after = take_last(
-        hashes,
-        parents,
-        sequences,
-        counts,
-        flags,
-        tips,
-        tails,
-        missing,
-        requested,
-        arrivals,
-        connected,
-        line,
-        read,
-    );
-    show(
-        parents,
-        sequences,
-        counts,
-        flags,
-        tips,
-        tails,
-        connected,
-        after,
-    );
+    read_line(&line[0..length])
 }

@@ -9,7 +9,12 @@ use cells::word_at;
 use rules::BlockSlot;
 use rules::Located;
 
-pub fn locate_anchor(parents: &[u32], sequences: &[u32], flags: &[u8], start: BlockSlot) -> Located
+fn locate_by_total_reads(
+    parents: &[u32],
+    sequences: &[u32],
+    flags: &[u8],
+    start: BlockSlot,
+) -> Located
     ensures { λ r. ⌜ anchorLocated r ≡ locateAnchor (now (parents .entry)) (now (sequences .entry)) (now (flags .entry)) (start .0) ⌝ }
 {
     let n = slots(sequences);
@@ -32,4 +37,38 @@ pub fn locate_anchor(parents: &[u32], sequences: &[u32], flags: &[u8], start: Bl
         visits += 1;
     }
     Located::Tail(BlockSlot(last))
+}
+
+// Where no field is shorter than the sequences, one test of the slot serves for all; NONE_REF is past the end like any other.
+pub fn locate_anchor(parents: &[u32], sequences: &[u32], flags: &[u8], start: BlockSlot) -> Located
+    ensures { λ r. ⌜ anchorLocated r ≡ locateAnchor (now (parents .entry)) (now (sequences .entry)) (now (flags .entry)) (start .0) ⌝ }
+{
+    let n = slots(sequences);
+    let len = n as usize;
+    if len == sequences.len() {
+        if len <= parents.len() {
+            if len <= flags.len() {
+                let mut current = start.0;
+                let mut last = start.0;
+                let mut visits: u32 = 0;
+                while visits < n {
+                    if current >= n {
+                        return Located::Tail(BlockSlot(last));
+                    }
+                    let k = current as usize;
+                    if sequences[k] == BlockSlot::NONE_REF {
+                        return Located::Tail(BlockSlot(last));
+                    }
+                    if flags[k] % 2 == 1 {
+                        return Located::Connection(BlockSlot(current));
+                    }
+                    last = current;
+                    current = parents[k];
+                    visits += 1;
+                }
+                return Located::Tail(BlockSlot(last));
+            }
+        }
+    }
+    locate_by_total_reads(parents, sequences, flags, start)
 }

@@ -2,11 +2,11 @@
 // of the caller. What a block holds and what changes it is in the crates above; its mark_subtree is `subtree`.
 ghost use mathlib.Core.Path.{_≡_};
 ghost use Rattle.rules.specs.Records.{occupied, active};
-ghost use Rattle.rules.specs.BlockTable.{isBlock, find as findRule, nextFree, findParent, walksToActiveChain};
+ghost use Rattle.rules.specs.BlockTable.{find as findRule, nextFree, findParent, walksToActiveChain};
 ghost use Rattle.rules.specs.Answers.{slotFound};
 use cells::byte_at;
-use cells::hash_at;
-use cells::same_hash;
+use cells::next_at;
+use cells::same_hash_at;
 use cells::slots;
 use cells::word_at;
 use rules::BlockSlot;
@@ -25,34 +25,20 @@ pub fn is_on_active_chain(flags: &[u8], slot: BlockSlot) -> bool
     byte_at(flags, slot.0) % 2 == 1
 }
 
-fn is_block(
-    hashes: &[u8],
-    sequences: &[u32],
-    sequence: Sequence,
-    hash: [u8; 32],
-    slot: BlockSlot,
-) -> bool
-    ensures { λ r. ⌜ r ≡ isBlock (now (hashes .entry)) (now (sequences .entry)) (sequence .0) hash (slot .0) ⌝ }
-{
-    if !is_occupied(sequences, slot) {
-        return false;
-    }
-    if word_at(sequences, slot.0) != sequence.0 {
-        return false;
-    }
-    same_hash(hash_at(hashes, slot.0), hash)
-}
-
 pub fn find(hashes: &[u8], sequences: &[u32], sequence: Sequence, hash: [u8; 32]) -> Found
     ensures { λ r. ⌜ slotFound r ≡ findRule (now (hashes .entry)) (now (sequences .entry)) (sequence .0) hash ⌝ }
 {
+    let wanted = sequence.0;
+    if wanted == BlockSlot::NONE_REF {
+        return Found::Nothing;
+    }
     let n = slots(sequences);
-    let mut i: u32 = 0;
+    let mut i = next_at(sequences, 0, wanted);
     while i < n {
-        if is_block(hashes, sequences, sequence, hash, BlockSlot(i)) {
+        if same_hash_at(hashes, i, hash) {
             return Found::At(BlockSlot(i));
         }
-        i += 1;
+        i = next_at(sequences, i + 1, wanted);
     }
     Found::Nothing
 }
@@ -60,13 +46,9 @@ pub fn find(hashes: &[u8], sequences: &[u32], sequence: Sequence, hash: [u8; 32]
 pub fn next_free_index(sequences: &[u32]) -> Found
     ensures { λ r. ⌜ slotFound r ≡ nextFree (now (sequences .entry)) ⌝ }
 {
-    let n = slots(sequences);
-    let mut i: u32 = 0;
-    while i < n {
-        if !is_occupied(sequences, BlockSlot(i)) {
-            return Found::At(BlockSlot(i));
-        }
-        i += 1;
+    let i = next_at(sequences, 0, BlockSlot::NONE_REF);
+    if i < slots(sequences) {
+        return Found::At(BlockSlot(i));
     }
     Found::Nothing
 }

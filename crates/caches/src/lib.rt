@@ -9,8 +9,7 @@ use cells::put_hash;
 use cells::put_time;
 use cells::put_word;
 use cells::word_at;
-use missing_hashes::knowing;
-use missing_hashes::missing_hash;
+use missing_hashes::keep_missing_hash;
 use rules::BlockSlot;
 use rules::HeadSlot;
 use rules::Located;
@@ -50,9 +49,16 @@ fn keep_tail(
     let bits = with_bit0(byte_at(connected, head.0), false);
     put_word(tails, head.0, at.0);
     put_byte(connected, head.0, bits);
-    let known = knowing(tips, tails, connected, at, head);
-    let hash = missing_hash(previous, missing, at, arriving, known);
-    put_hash(missing, head.0, hash);
+    keep_missing_hash(
+        tips,
+        tails,
+        missing,
+        connected,
+        head,
+        at,
+        arriving,
+        previous,
+    );
 }
 
 pub fn recompute_caches(

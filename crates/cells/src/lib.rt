@@ -1,7 +1,11 @@
 // Total reads and writes of lent buffers: past the end a read gives what an empty record has, and a write does nothing.
 // Hashes by value: read, written, and compared from the first byte on.
 ghost use mathlib.Core.Path.{_≡_};
+ghost use mathlib.Core.Logic.{_≢_};
+ghost use mathlib.Core.Bool.{true};
+ghost use Prim.Native.Nat.{ℕ, _+_, _<_, _≤_};
 ghost use lib.ListN.{getD, set};
+ghost use Rattle.cells.specs.Places.{nextAt};
 ghost use Rattle.rules.specs.Hashes.{hashAt, putHash, sameHash, hashLess};
 ghost use Rattle.rules.specs.Records.{NONE, slotsOf};
 use rules::BlockSlot;
@@ -20,9 +24,9 @@ pub fn slots(words: &[u32]) -> u32
 pub fn word_at(words: &[u32], at: u32) -> u32
     ensures { λ r. ⌜ r ≡ getD (now (words .entry)) at NONE ⌝ }
 {
-    let k = at as usize;
-    if k < words.len() {
-        words[k]
+    let slot = at as usize;
+    if slot < words.len() {
+        words[slot]
     } else {
         BlockSlot::NONE_REF
     }
@@ -52,12 +56,7 @@ fn byte_from(bytes: &[u8], k: usize) -> u8
 pub fn put_byte(bytes: &mut [u8], at: u32, value: u8)
     ensures { λ _. ⌜ now (bytes .exit) ≡ set (now (bytes .entry)) at value ⌝ }
 {
-    put_byte_from(bytes, at as usize, value);
-}
-
-fn put_byte_from(bytes: &mut [u8], k: usize, value: u8)
-    ensures { λ _. ⌜ now (bytes .exit) ≡ set (now (bytes .entry)) k value ⌝ }
-{
+    let k = at as usize;
     if k < bytes.len() {
         bytes[k] = value;
     }
@@ -79,8 +78,62 @@ pub fn put_time(times: &mut [u64], at: u32, value: u64)
     }
 }
 
+// The lowest place from `from` on that holds the value, else the number of slots.
+pub fn next_at(words: &[u32], from: u32, value: u32) -> u32
+    ensures { λ r. ⌜ r ≡ nextAt (now (words .entry)) from value ⌝ }
+{
+    let n = slots(words);
+    let mut k = from;
+    while eight_differ(words, k, value) {
+        k += 8;
+    }
+    while k < n {
+        if word_at(words, k) == value {
+            return k;
+        }
+        k += 1;
+    }
+    n
+}
+
+// Eight slots at once: none holds the value.
+fn eight_differ(words: &[u32], from: u32, value: u32) -> bool
+    ensures { λ r. ⌜ (r ≡ true → (from + 8 ≤ slotsOf (now (words .entry))) × ((j : ℕ) → j < 8 → getD (now (words .entry)) (from + j) NONE ≢ value)) ⌝ }
+{
+    let first = from as usize;
+    if first + 8 > slots(words) as usize {
+        return false;
+    }
+    let mut differ = true;
+    let mut j = 0;
+    while j < 8 {
+        if words[first + j] == value {
+            differ = false;
+        }
+        j += 1;
+    }
+    differ
+}
+
 // The hash in a place of a buffer of hashes.
 pub fn hash_at(bytes: &[u8], at: u32) -> [u8; 32]
+    ensures { λ r. ⌜ r ≡ hashAt (now (bytes .entry)) at ⌝ }
+{
+    let from = at as usize * 32;
+    if from + 32 > bytes.len() {
+        return padded_hash(&bytes[..bytes.len()], at);
+    }
+    let mut hash = [0u8; 32];
+    let mut k = 0;
+    while k < 32 {
+        hash[k] = bytes[from + k];
+        k += 1;
+    }
+    hash
+}
+
+// A hash that the buffer's end may cut.
+fn padded_hash(bytes: &[u8], at: u32) -> [u8; 32]
     ensures { λ r. ⌜ r ≡ hashAt (now (bytes .entry)) at ⌝ }
 {
     let from = at as usize * 32;
@@ -93,28 +146,61 @@ pub fn hash_at(bytes: &[u8], at: u32) -> [u8; 32]
     hash
 }
 
+pub fn first_byte(bytes: &[u8], at: u32) -> u8
+    ensures { λ r. ⌜ r ≡ getD (hashAt (now (bytes .entry)) at) 0 0 ⌝ }
+{
+    byte_from(bytes, at as usize * 32)
+}
+
 pub fn put_hash(bytes: &mut [u8], at: u32, hash: [u8; 32])
     ensures { λ _. ⌜ now (bytes .exit) ≡ putHash (now (bytes .entry)) at hash ⌝ }
 {
     let from = at as usize * 32;
-    let mut k = 0;
-    while k < 32 {
-        put_byte_from(bytes, from + k, hash[k]);
-        k += 1;
+    if from + 32 <= bytes.len() {
+        let mut k = 0;
+        while k < 32 {
+            bytes[from + k] = hash[k];
+            k += 1;
+        }
+    } else {
+        let mut k = from;
+        while k < bytes.len() {
+            bytes[k] = hash[k - from];
+            k += 1;
+        }
     }
 }
 
 pub fn same_hash(a: [u8; 32], b: [u8; 32]) -> bool
     ensures { λ r. ⌜ r ≡ sameHash a b ⌝ }
 {
+    let mut same = true;
     let mut k = 0;
     while k < 32 {
         if a[k] != b[k] {
-            return false;
+            same = false;
         }
         k += 1;
     }
-    true
+    same
+}
+
+pub fn same_hash_at(bytes: &[u8], at: u32, hash: [u8; 32]) -> bool
+    ensures { λ r. ⌜ r ≡ sameHash (hashAt (now (bytes .entry)) at) hash ⌝ }
+{
+    let from = at as usize * 32;
+    if from + 32 > bytes.len() {
+        return same_hash(padded_hash(&bytes[..bytes.len()], at), hash);
+    }
+    let mut same = true;
+    let mut k = 0;
+    while k < 32 {
+        if bytes[from + k] != hash[k] {
+            same = false;
+        }
+        k += 1;
+    }
+    same
 }
 
 pub fn hash_less(a: [u8; 32], b: [u8; 32]) -> bool

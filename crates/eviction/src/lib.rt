@@ -1,19 +1,19 @@
 // Eviction: which head goes, and which blocks go with it. Port of that part of src/chain_heads.rs.
 ghost use mathlib.Core.Path.{_≡_};
-ghost use Prim.Native.Nat.{ℕ};
-ghost use Rattle.rules.specs.Common.{if_then_else_, better};
-ghost use Rattle.rules.specs.Records.{blocksOf, tablesOf, slotsOf, tipAt};
+ghost use mathlib.Core.Bool.{true, not, _&&_, _||_};
+ghost use lib.Dec.{eqb, ltb};
+ghost use Rattle.rules.specs.Common.{if_then_else_};
+ghost use Rattle.rules.specs.Hashes.{hashAt, hashLess};
+ghost use Rattle.rules.specs.Records.{NONE, blocksOf, tablesOf, slotsOf, tipAt};
 ghost use Rattle.rules.specs.Answers.{slotFound, headFound};
-ghost use Rattle.rules.specs.Eviction.{blockBefore, mayGo, victim, evictFrom, evict as evictRule, evictOne};
+ghost use Rattle.rules.specs.Eviction.{victim, evictFrom, evict as evictRule, evictOne};
 ghost use Rattle.eviction.specs.Visit.{visited, goesOn};
 use block_changes::delete;
 use block_counts::adjust_head_ref_count;
-use blocks::is_occupied;
 use blocks::is_on_active_chain;
 use cells::slots;
 use cells::word_at;
-use heads::block_before;
-use heads::is_used;
+use heads::hash_before;
 use heads::put_head;
 use rules::BlockSlot;
 use rules::Counted;
@@ -21,60 +21,42 @@ use rules::Found;
 use rules::FoundHead;
 use rules::Head;
 use rules::HeadSlot;
+use rules::Sequence;
 
-fn may_go(sequences: &[u32], tips: &[u32], active: BlockSlot, head: HeadSlot) -> bool
-    ensures { λ r. ⌜ r ≡ mayGo (now (sequences .entry)) (now (tips .entry)) (active .0) (head .0) ⌝ }
+fn may_go(tip: BlockSlot, sequence: Sequence, active: BlockSlot) -> bool
+    ensures { λ r. ⌜ r ≡ (not (eqb (tip .0) NONE) && not (eqb (tip .0) (active .0)) && not (eqb (sequence .0) NONE)) ⌝ }
 {
-    if !is_used(tips, head) {
+    if tip.0 == BlockSlot::NONE_REF {
         return false;
     }
-    let tip = word_at(tips, head.0);
-    if tip == active.0 {
+    if tip.0 == active.0 {
         return false;
     }
-    is_occupied(sequences, BlockSlot(tip))
+    sequence.0 != Sequence::NONE_REF
 }
 
-// The better of a head slot and the best so far.
-fn better_victim(
+// Whether a tip of this sequence goes before the best head's, whose sequence is the lowest so far.
+fn goes_first(
     hashes: &[u8],
-    sequences: &[u32],
     tips: &[u32],
-    best: FoundHead,
-    head: HeadSlot,
-) -> FoundHead
-    ensures { λ r. ⌜ headFound r ≡ better (λ (j k : ℕ). blockBefore (now (hashes .entry)) (now (sequences .entry)) (tipAt (now (tips .entry)) j) (tipAt (now (tips .entry)) k)) (head .0) (headFound best) ⌝ }
+    any: bool,
+    best: HeadSlot,
+    lowest: Sequence,
+    tip: BlockSlot,
+    sequence: Sequence,
+) -> bool
+    ensures { λ r. ⌜ r ≡ (if any then ltb (sequence .0) (lowest .0) || (eqb (sequence .0) (lowest .0) && hashLess (hashAt (now (hashes .entry)) (tip .0)) (hashAt (now (hashes .entry)) (tipAt (now (tips .entry)) (best .0)))) else true) ⌝ }
 {
-    match best {
-        FoundHead::Nothing => FoundHead::At(head),
-        FoundHead::At(held) => {
-            let mine = BlockSlot(word_at(tips, head.0));
-            let theirs = BlockSlot(word_at(tips, held.0));
-            if block_before(hashes, sequences, mine, theirs) {
-                return FoundHead::At(head);
-            }
-            FoundHead::At(held)
-        }
+    if !any {
+        return true;
     }
-}
-
-// One head more is looked at.
-fn consider(
-    hashes: &[u8],
-    sequences: &[u32],
-    tips: &[u32],
-    active: BlockSlot,
-    best: FoundHead,
-    head: HeadSlot,
-) -> FoundHead
-    ensures { λ r. ⌜ headFound r ≡ (if mayGo (now (sequences .entry)) (now (tips .entry)) (active .0) (head .0)
-        then better (λ (j k : ℕ). blockBefore (now (hashes .entry)) (now (sequences .entry)) (tipAt (now (tips .entry)) j) (tipAt (now (tips .entry)) k)) (head .0) (headFound best)
-        else headFound best) ⌝ }
-{
-    if may_go(sequences, tips, active, head) {
-        return better_victim(hashes, sequences, tips, best, head);
+    if sequence.0 < lowest.0 {
+        return true;
     }
-    best
+    if sequence.0 != lowest.0 {
+        return false;
+    }
+    hash_before(hashes, tip, BlockSlot(word_at(tips, best.0)))
 }
 
 pub fn select_eviction_victim(
@@ -86,13 +68,34 @@ pub fn select_eviction_victim(
     ensures { λ r. ⌜ headFound r ≡ victim (now (hashes .entry)) (now (sequences .entry)) (now (tips .entry)) (active .0) ⌝ }
 {
     let m = slots(tips);
-    let mut best = FoundHead::Nothing;
+    let mut any = false;
+    let mut best: u32 = 0;
+    let mut lowest: u32 = 0;
     let mut k: u32 = 0;
     while k < m {
-        best = consider(hashes, sequences, tips, active, best, HeadSlot(k));
+        let tip = word_at(tips, k);
+        let sequence = word_at(sequences, tip);
+        if goes_first(
+            hashes,
+            tips,
+            any,
+            HeadSlot(best),
+            Sequence(lowest),
+            BlockSlot(tip),
+            Sequence(sequence),
+        ) {
+            if may_go(BlockSlot(tip), Sequence(sequence), active) {
+                any = true;
+                best = k;
+                lowest = sequence;
+            }
+        }
         k += 1;
     }
-    best
+    if any {
+        return FoundHead::At(HeadSlot(best));
+    }
+    FoundHead::Nothing
 }
 
 // One visit of the walk; the next block to visit, if the walk goes on.

@@ -1,9 +1,10 @@
 // The head table: look-ups, one head as a whole, and which of two tips goes before the other. Port of the lower half of
 // src/chain_heads.rs, with the crates `anchor` to `all_caches`.
 ghost use mathlib.Core.Path.{_≡_};
-ghost use mathlib.Core.Bool.{_&&_};
+ghost use Prim.Native.Nat.{ℕ};
 ghost use lib.Dec.{eqb};
 ghost use Rattle.rules.specs.Common.{countBelow, isSome, lowest};
+ghost use Rattle.rules.specs.Hashes.{hashAt, hashLess};
 ghost use Rattle.rules.specs.Records.{headsOf, slotsOf, tipAt, used, isConnected, stored, putHead};
 ghost use Rattle.rules.specs.Caches.{slotOfHead};
 ghost use Rattle.rules.specs.Admission.{firstEmpty};
@@ -12,6 +13,7 @@ ghost use Rattle.rules.specs.Eviction.{blockBefore};
 use cells::byte_at;
 use cells::hash_at;
 use cells::hash_less;
+use cells::next_at;
 use cells::put_byte;
 use cells::put_hash;
 use cells::put_time;
@@ -44,39 +46,28 @@ pub fn is_stored(tips: &[u32], connected: &[u8], head: HeadSlot) -> bool
     !is_connected(connected, head)
 }
 
-fn has_tip(tips: &[u32], head: HeadSlot, tip: BlockSlot) -> bool
-    ensures { λ r. ⌜ r ≡ (used (now (tips .entry)) (head .0) && eqb (tipAt (now (tips .entry)) (head .0)) (tip .0)) ⌝ }
-{
-    if !is_used(tips, head) {
-        return false;
-    }
-    word_at(tips, head.0) == tip.0
-}
-
 pub fn slot_of_head(tips: &[u32], tip: BlockSlot) -> FoundHead
     ensures { λ r. ⌜ headFound r ≡ slotOfHead (now (tips .entry)) (tip .0) ⌝ }
 {
-    let m = slots(tips);
-    let mut k: u32 = 0;
-    while k < m {
-        if has_tip(tips, HeadSlot(k), tip) {
-            return FoundHead::At(HeadSlot(k));
-        }
-        k += 1;
+    let wanted = tip.0;
+    if wanted == BlockSlot::NONE_REF {
+        return FoundHead::Nothing;
     }
-    FoundHead::Nothing
+    head_with(tips, wanted)
 }
 
 pub fn first_empty(tips: &[u32]) -> FoundHead
     ensures { λ r. ⌜ headFound r ≡ firstEmpty (now (tips .entry)) ⌝ }
 {
-    let m = slots(tips);
-    let mut k: u32 = 0;
-    while k < m {
-        if !is_used(tips, HeadSlot(k)) {
-            return FoundHead::At(HeadSlot(k));
-        }
-        k += 1;
+    head_with(tips, BlockSlot::NONE_REF)
+}
+
+fn head_with(tips: &[u32], value: u32) -> FoundHead
+    ensures { λ r. ⌜ headFound r ≡ lowest (λ (k : ℕ). eqb (tipAt (now (tips .entry)) k) value) (slotsOf (now (tips .entry))) ⌝ }
+{
+    let k = next_at(tips, 0, value);
+    if k < slots(tips) {
+        return FoundHead::At(HeadSlot(k));
     }
     FoundHead::Nothing
 }
@@ -132,6 +123,12 @@ pub fn put_head(
     put_byte(connected, slot.0, head.connected);
 }
 
+pub fn hash_before(hashes: &[u8], a: BlockSlot, b: BlockSlot) -> bool
+    ensures { λ r. ⌜ r ≡ hashLess (hashAt (now (hashes .entry)) (a .0)) (hashAt (now (hashes .entry)) (b .0)) ⌝ }
+{
+    hash_less(hash_at(hashes, a.0), hash_at(hashes, b.0))
+}
+
 pub fn block_before(hashes: &[u8], sequences: &[u32], a: BlockSlot, b: BlockSlot) -> bool
     ensures { λ r. ⌜ r ≡ blockBefore (now (hashes .entry)) (now (sequences .entry)) (a .0) (b .0) ⌝ }
 {
@@ -143,5 +140,5 @@ pub fn block_before(hashes: &[u8], sequences: &[u32], a: BlockSlot, b: BlockSlot
     if first != second {
         return false;
     }
-    hash_less(hash_at(hashes, a.0), hash_at(hashes, b.0))
+    hash_before(hashes, a, b)
 }

@@ -1,16 +1,20 @@
 // Late tails: blocks that waited for the new one are linked to it.
 ghost use mathlib.Core.Path.{_≡_};
+ghost use mathlib.Core.Bool.{_&&_};
 ghost use Prim.Native.Nat.{suc};
 ghost use lib.Dec.{eqb};
 ghost use lib.IntN.{pos};
-ghost use Rattle.rules.specs.Records.{headsOf, tablesOf};
+ghost use lib.ListN.{getD};
+ghost use Rattle.rules.specs.Hashes.{hashAt};
+ghost use Rattle.rules.specs.Records.{headsOf, tablesOf, stored};
 ghost use Rattle.rules.specs.BlockTable.{adjustCounts};
 ghost use Rattle.rules.specs.Admission.{misses as missesRule, late, joined as joinedRule, link as linkRule, linkLate, linkTails};
 use block_changes::resolve_parent_ref;
 use block_counts::adjust_head_ref_count;
 use blocks::is_occupied;
+use cells::first_byte;
 use cells::hash_at;
-use cells::same_hash;
+use cells::same_hash_at;
 use cells::slots;
 use cells::word_at;
 use heads::is_stored;
@@ -37,7 +41,17 @@ pub fn misses(
     if !is_stored(tips, connected, head) {
         return false;
     }
-    same_hash(hash_at(missing, head.0), hash)
+    same_hash_at(missing, head.0, hash)
+}
+
+// Cheap: a head that fails this test does not miss any hash with this first byte.
+pub fn may_miss(tips: &[u32], missing: &[u8], connected: &[u8], first: u8, head: HeadSlot) -> bool
+    ensures { λ r. ⌜ r ≡ (eqb (getD (hashAt (now (missing .entry)) (head .0)) 0 0) first && stored (now (tips .entry)) (now (connected .entry)) (head .0)) ⌝ }
+{
+    if first_byte(missing, head.0) != first {
+        return false;
+    }
+    is_stored(tips, connected, head)
 }
 
 fn is_late(
@@ -243,34 +257,37 @@ pub fn link_tails(
     arrivals: &mut [u64],
     connected: &mut [u8],
     block: BlockSlot,
-    hash: [u8; 32],
     sequence: Sequence,
 )
     ensures { λ _. ⌜ tablesOf (now (hashes .entry)) (now (parents .exit)) (now (sequences .entry)) (now (counts .exit)) (now (flags .entry))
         (now (tips .exit)) (now (tails .exit)) (now (missing .exit)) (now (requested .exit)) (now (arrivals .exit)) (now (connected .exit))
         ≡ linkTails (tablesOf (now (hashes .entry)) (now (parents .entry)) (now (sequences .entry)) (now (counts .entry)) (now (flags .entry))
-        (now (tips .entry)) (now (tails .entry)) (now (missing .entry)) (now (requested .entry)) (now (arrivals .entry)) (now (connected .entry))) (block .0) hash (sequence .0) ⌝ }
+        (now (tips .entry)) (now (tails .entry)) (now (missing .entry)) (now (requested .entry)) (now (arrivals .entry)) (now (connected .entry))) (block .0) (hashAt (now (hashes .entry)) (block .0)) (sequence .0) ⌝ }
 {
+    let hash = hash_at(hashes, block.0);
+    let first = first_byte(hashes, block.0);
     let m = slots(tips);
     let mut k: u32 = 0;
     while k < m {
-        link_late(
-            hashes,
-            parents,
-            sequences,
-            counts,
-            flags,
-            tips,
-            tails,
-            missing,
-            requested,
-            arrivals,
-            connected,
-            block,
-            hash,
-            sequence,
-            HeadSlot(k),
-        );
+        if may_miss(tips, missing, connected, first, HeadSlot(k)) {
+            link_late(
+                hashes,
+                parents,
+                sequences,
+                counts,
+                flags,
+                tips,
+                tails,
+                missing,
+                requested,
+                arrivals,
+                connected,
+                block,
+                hash,
+                sequence,
+                HeadSlot(k),
+            );
+        }
         k += 1;
     }
 }

@@ -1,13 +1,16 @@
 // The late tails are linked, then the heads that missed the new hash are worked out again.
 ghost use mathlib.Core.Path.{_≡_};
+ghost use Rattle.rules.specs.Hashes.{hashAt};
 ghost use Rattle.rules.specs.Records.{blocksOf, headsOf, tablesOf};
 ghost use Rattle.rules.specs.Admission.{recomputeMissed, recomputeMissing, resolveTails};
 use blocks::is_occupied;
 use caches::recompute_caches;
+use cells::first_byte;
 use cells::hash_at;
 use cells::slots;
 use cells::word_at;
 use late_links::link_tails;
+use late_links::may_miss;
 use late_links::misses;
 use rules::BlockSlot;
 use rules::HeadSlot;
@@ -72,34 +75,37 @@ fn recompute_missing(
     arrivals: &[u64],
     connected: &mut [u8],
     block: BlockSlot,
-    hash: [u8; 32],
     previous: &[u8],
 )
     ensures { λ _. ⌜ tablesOf (now (hashes .entry)) (now (parents .entry)) (now (sequences .entry)) (now (counts .entry)) (now (flags .entry))
         (now (tips .entry)) (now (tails .exit)) (now (missing .exit)) (now (requested .exit)) (now (arrivals .entry)) (now (connected .exit))
         ≡ recomputeMissing (tablesOf (now (hashes .entry)) (now (parents .entry)) (now (sequences .entry)) (now (counts .entry)) (now (flags .entry))
-        (now (tips .entry)) (now (tails .entry)) (now (missing .entry)) (now (requested .entry)) (now (arrivals .entry)) (now (connected .entry))) (block .0) hash (now (previous .entry)) ⌝ }
+        (now (tips .entry)) (now (tails .entry)) (now (missing .entry)) (now (requested .entry)) (now (arrivals .entry)) (now (connected .entry))) (block .0) (hashAt (now (hashes .entry)) (block .0)) (now (previous .entry)) ⌝ }
 {
+    let hash = hash_at(hashes, block.0);
+    let first = first_byte(hashes, block.0);
     let m = slots(tips);
     let mut k: u32 = 0;
     while k < m {
-        recompute_missed(
-            hashes,
-            parents,
-            sequences,
-            counts,
-            flags,
-            tips,
-            tails,
-            missing,
-            requested,
-            arrivals,
-            connected,
-            block,
-            hash,
-            previous,
-            HeadSlot(k),
-        );
+        if may_miss(tips, missing, connected, first, HeadSlot(k)) {
+            recompute_missed(
+                hashes,
+                parents,
+                sequences,
+                counts,
+                flags,
+                tips,
+                tails,
+                missing,
+                requested,
+                arrivals,
+                connected,
+                block,
+                hash,
+                previous,
+                HeadSlot(k),
+            );
+        }
         k += 1;
     }
 }
@@ -125,7 +131,6 @@ pub fn resolve_pending_tails(
         (now (tips .entry)) (now (tails .entry)) (now (missing .entry)) (now (requested .entry)) (now (arrivals .entry)) (now (connected .entry))) (block .0) (now (previous .entry)) ⌝ }
 {
     if is_occupied(sequences, block) {
-        let hash = hash_at(hashes, block.0);
         let sequence = Sequence(word_at(sequences, block.0));
         link_tails(
             hashes,
@@ -140,7 +145,6 @@ pub fn resolve_pending_tails(
             arrivals,
             connected,
             block,
-            hash,
             sequence,
         );
         recompute_missing(
@@ -156,7 +160,6 @@ pub fn resolve_pending_tails(
             arrivals,
             connected,
             block,
-            hash,
             previous,
         );
     }

@@ -1,8 +1,10 @@
 // The missing hash of a head.
 ghost use mathlib.Core.Path.{_≡_};
-ghost use Rattle.rules.specs.Hashes.{hashAt};
+ghost use Rattle.rules.specs.Hashes.{hashAt, putHash};
 ghost use Rattle.rules.specs.Caches.{waitsAt, knowing as knowingRule, missingPart};
 use cells::hash_at;
+use cells::next_at;
+use cells::put_hash;
 use cells::slots;
 use cells::word_at;
 use heads::is_stored;
@@ -12,14 +14,38 @@ use rules::HeadSlot;
 fn waits_at(tips: &[u32], tails: &[u32], connected: &[u8], tail: BlockSlot, head: HeadSlot) -> bool
     ensures { λ r. ⌜ r ≡ waitsAt (now (tips .entry)) (now (tails .entry)) (now (connected .entry)) (tail .0) (head .0) ⌝ }
 {
-    if !is_stored(tips, connected, head) {
+    if word_at(tails, head.0) != tail.0 {
         return false;
     }
-    word_at(tails, head.0) == tail.0
+    is_stored(tips, connected, head)
 }
 
 // The lowest stored head with this cached tail, else the head itself.
-pub fn knowing(
+fn knowing(
+    tips: &[u32],
+    tails: &[u32],
+    connected: &[u8],
+    tail: BlockSlot,
+    head: HeadSlot,
+) -> HeadSlot
+    ensures { λ r. ⌜ r .0 ≡ knowingRule (now (tips .entry)) (now (tails .entry)) (now (connected .entry)) (tail .0) (head .0) ⌝ }
+{
+    let m = slots(tips);
+    if slots(tails) < m {
+        return knowing_by_head(tips, tails, connected, tail, head);
+    }
+    let mut k = next_at(tails, 0, tail.0);
+    while k < m {
+        if is_stored(tips, connected, HeadSlot(k)) {
+            return HeadSlot(k);
+        }
+        k = next_at(tails, k + 1, tail.0);
+    }
+    head
+}
+
+// The same where a head may have no tail of its own.
+fn knowing_by_head(
     tips: &[u32],
     tails: &[u32],
     connected: &[u8],
@@ -39,41 +65,28 @@ pub fn knowing(
     head
 }
 
-// A part of the arriving block's previous hash, or of the heads' hashes.
-pub fn missing_part<'a>(
-    previous: &'a [u8],
-    missing: &'a [u8],
+// The previous hash where the tail is the arriving block, else what a head with this tail knows; the head's own stands already.
+pub fn keep_missing_hash(
+    tips: &[u32],
+    tails: &[u32],
+    missing: &mut [u8],
+    connected: &[u8],
+    head: HeadSlot,
     tail: BlockSlot,
     arriving: BlockSlot,
-    head: HeadSlot,
-) -> &'a [u8]
-    ensures { λ r. ⌜ now r ≡ missingPart (now (previous .entry)) (now (missing .entry)) (tail .0) (arriving .0) (head .0) ⌝ }
+    previous: &[u8],
+)
+    ensures { λ _. ⌜ now (missing .exit)
+        ≡ putHash (now (missing .entry)) (head .0) (hashAt (missingPart (now (previous .entry)) (now (missing .entry)) (tail .0) (arriving .0)
+        (knowingRule (now (tips .entry)) (now (tails .entry)) (now (connected .entry)) (tail .0) (head .0))) 0) ⌝ }
 {
     if tail.0 == arriving.0 {
-        if 32 <= previous.len() {
-            return &previous[0..32];
-        }
-        return previous;
+        put_hash(missing, head.0, hash_at(previous, 0));
+        return;
     }
-    let start = head.0 as usize * 32;
-    let end = start + 32;
-    if end <= missing.len() {
-        return &missing[start..end];
+    let known = knowing(tips, tails, connected, tail, head);
+    if known.0 != head.0 {
+        let hash = hash_at(missing, known.0);
+        put_hash(missing, head.0, hash);
     }
-    if start <= missing.len() {
-        return &missing[start..];
-    }
-    &missing[0..0]
-}
-
-pub fn missing_hash<'a>(
-    previous: &'a [u8],
-    missing: &'a [u8],
-    tail: BlockSlot,
-    arriving: BlockSlot,
-    head: HeadSlot,
-) -> [u8; 32]
-    ensures { λ r. ⌜ r ≡ hashAt (missingPart (now (previous .entry)) (now (missing .entry)) (tail .0) (arriving .0) (head .0)) 0 ⌝ }
-{
-    hash_at(missing_part(previous, missing, tail, arriving, head), 0)
 }

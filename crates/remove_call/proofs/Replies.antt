@@ -11,7 +11,7 @@ use Rattle.rules.specs.Records.{Tables, slotsOf, parentAt, occupied}
 use Rattle.rules.specs.BlockTable.{inSubtree, markSubtree}
 use Rattle.rules.specs.Removal.{freeAll, blocksDeleted, removed}
 use Rattle.rules.specs.Answers.{Answer, refused, done, freed}
-use Rattle.rules.specs.Calls.{State, Stepped, keeping, answering, refuse, maxBlocks, shaped, holdsActive, remove}
+use Rattle.rules.specs.Calls.{State, keeping, answering, refuse, maxBlocks, shaped, holdsActive, remove}
 use Rattle.rules.proofs.Splits.{split}
 use Rattle.rules.proofs.Search.{all-few}
 use Rattle.rules.proofs.Kept.Shaped.{shaped-shape}

@@ -33,6 +33,20 @@ module _ (test : ℕ → Bool) (before : ℕ → ℕ → Bool) where
   pub best-next : (i : ℕ) → best test before (i + 1) ≡ (if test i then better before i (best test before i) else best test before i)
   best-next i = split (test i) (λ e. best-passes i e ∙ rw e) (λ e. best-fails i e ∙ rw e)
 
+  -- ---- a turn, with the best so far as a flag and a number
+
+  pub best-keeps : (any : Bool) (b k : ℕ) → best test before k ≡ (if any then some b else none)
+      → (test k ≡ true → (if any then before k b else true) ≡ false) → best test before (k + 1) ≡ (if any then some b else none)
+  unfolding better
+  best-keeps true b k e h = split (test k) (λ m. best-passes k m ∙ rw (e, h m)) (λ m. best-fails k m ∙ e)
+  best-keeps false b k e h = split (test k) (λ m. true-not-false {b = true} refl (h m)) (λ m. best-fails k m ∙ e)
+
+  pub best-takes : (any : Bool) (b k : ℕ) → best test before k ≡ (if any then some b else none)
+      → test k ≡ true → (if any then before k b else true) ≡ true → best test before (k + 1) ≡ some k
+  unfolding better
+  best-takes true b k e m h = best-passes k m ∙ rw (e, h)
+  best-takes false b k e m h = best-passes k m ∙ rw e
+
   -- ---- a number that passes, by what was found before it
 
   first : (n : ℕ) → test n ≡ true → best test before n ≡ none → best test before (suc n) ≡ some n

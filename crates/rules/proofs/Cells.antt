@@ -1,11 +1,10 @@
 -- Cells of a list: a read with one default or another, a store of the default, a run of stores.
 use mathlib.Core.Path.{_≡_, refl, ap, _∙_}
 use mathlib.Core.List.{List, [], _∷_, _++_}
-use Prim.Native.Nat.{ℕ, zero, suc, _+_, _<_}
+use Prim.Native.Nat.{ℕ, zero, suc, _+_, _<_, _≤_}
 use native.Mathlib.Nat.{add-zero}
-use native.Mathlib.Numerals.{add-one}
 use native.Mathlib.Omega.{arith}
-use lib.ListN.{length, getD, set, take, List·getD-eq-default}
+use lib.ListN.{length, getD, set, take, length-set, List·getD-eq-default}
 use lib.Seq.{sets, getD-set-same, set-out}
 use Rattle.rules.proofs.Splits.{less?}
 
@@ -36,3 +35,13 @@ sets-append l [] v i = rw add-zero refl
 sets-append l (x ∷ vs) v i =
     let e : suc i + length vs ≡ i + suc (length vs) = omega arith in
     sets-append (set l i x) vs v (suc i) ∙ ap (λ (j : ℕ). set (sets (set l i x) (suc i) vs) j v) e
+
+-- stores past the end do nothing
+sets-out : (l vs : List ℕ) (i : ℕ) → length l ≤ i → sets l i vs ≡ l
+sets-out l [] i h = refl
+sets-out l (v ∷ vs) i h = rw (set-out l i v h) (sets-out l vs (suc i) (omega arith))
+
+pub sets-cut : (l vs : List ℕ) (i k : ℕ) → length l ≤ i + k → sets l i vs ≡ sets l i (take k vs)
+sets-cut l vs i zero h = sets-out l vs i (omega arith)
+sets-cut l [] i (suc k) h = refl
+sets-cut l (v ∷ vs) i (suc k) h = sets-cut (set l i v) vs (suc i) k (omega (arith, length-set l i v))

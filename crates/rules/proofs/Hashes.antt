@@ -1,7 +1,7 @@
 -- Hashes: what is read and written cell by cell, and that the order on them decides at the first byte that differs.
 use mathlib.Core.Path.{_≡_, refl, sym, ap, _∙_}
 use mathlib.Core.Logic.{_≢_}
-use mathlib.Core.Bool.{Bool, true, false, _&&_}
+use mathlib.Core.Bool.{true, false}
 use mathlib.Core.List.{List, [], _∷_}
 use Prim.Native.Nat.{ℕ, zero, suc, _+_, _*_, _<_, _≤_}
 use native.Mathlib.Numerals.{add-one}
@@ -9,11 +9,11 @@ use native.Mathlib.Nat.{add-zero}
 use native.Mathlib.Omega.{arith}
 use borrow.Author.Tests.{eq-eqb, ne-eqb, lt-ltb, le-ltb, eqb-true}
 use lib.Dec.{eqb, ltb}
-use lib.ListN.{length, getD, set, drop, take, length-set, drop-of-length-le}
-use lib.Seq.{sets, drop-cons, getD-set-same, getD-set-other, ext-getD, length-sets}
+use lib.ListN.{length, getD, drop, drop-of-length-le}
+use lib.Seq.{drop-cons, ext-getD}
 use Rattle.rules.specs.Common.{if_then_else_}
-use Rattle.rules.specs.Hashes.{bytesFrom, hashAt, putHash, sameHash, hashLess, hashLength}
-use Rattle.rules.proofs.Splits.{split, same?, less?, and-true, and-both, true-not-false}
+use Rattle.rules.specs.Hashes.{bytesFrom, hashAt, sameHash, hashLess, hashLength}
+use Rattle.rules.proofs.Splits.{and-true, and-both, true-not-false}
 
 -- ---- reading
 
@@ -37,6 +37,17 @@ unfolding hashAt
 hash-is bytes hash i len at =
     ext-getD 0 hash (bytesFrom bytes (i * hashLength) hashLength) (len ∙ sym (bytes-length bytes (i * hashLength) hashLength))
     (λ k l. let l′ : k < hashLength = omega arith in at k l′ ∙ sym (bytes-at bytes (i * hashLength) hashLength k l′))
+
+pub hash-length : (bytes : List ℕ) (i : ℕ) → length (hashAt bytes i) ≡ hashLength
+unfolding hashAt
+hash-length bytes i = bytes-length bytes (i * hashLength) hashLength
+
+pub hash-byte : (bytes : List ℕ) (i k : ℕ) → k < hashLength → getD (hashAt bytes i) k 0 ≡ getD bytes (i * hashLength + k) 0
+unfolding hashAt
+hash-byte bytes i k = bytes-at bytes (i * hashLength) hashLength k
+
+pub first-byte : (bytes : List ℕ) (i : ℕ) → getD bytes (i * hashLength) 0 ≡ getD (hashAt bytes i) 0 0
+first-byte bytes i = sym (hash-byte bytes i 0 (omega arith) ∙ rw add-zero refl)
 
 -- ---- comparing, from a place on
 

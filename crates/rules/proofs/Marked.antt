@@ -1,5 +1,5 @@
 -- The marked values of 01, all of them: one test that is computed over the whole table, and what it says of each row.
-use mathlib.Core.Path.{_≡_, refl, subst, sym}
+use mathlib.Core.Path.{_≡_, refl}
 use mathlib.Core.Bool.{true}
 use mathlib.Core.Logic.{_⊎_, inl, inr}
 use mathlib.Core.List.{List, [], _∷_, List·Memᴰ, List·Memᴰ·cases-cons, List·Memᴰ·not-nil}

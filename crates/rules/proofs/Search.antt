@@ -1,14 +1,14 @@
 -- The lowest number that passes, the one that goes before all others, how many pass and which: what callers use of each.
-use mathlib.Core.Path.{_≡_, refl, sym, ap, _∙_}
-use mathlib.Core.Logic.{_≢_, _⊎_, inl, inr}
+use mathlib.Core.Path.{_≡_, refl, sym, _∙_}
+use mathlib.Core.Logic.{_≢_, _⊎_}
 use mathlib.Core.Bool.{Bool, true, false}
-use mathlib.Core.List.{List, [], _∷_, _++_, append-nil}
-use mathlib.Core.Option.{Option, none, some}
+use mathlib.Core.List.{[], _∷_, _++_, append-nil}
+use mathlib.Core.Option.{none, some}
 use Prim.Native.Nat.{ℕ, zero, suc, _+_, _<_, _≤_}
 use native.Mathlib.Numerals.{add-one}
 use native.Mathlib.Omega.{arith}
 use lib.ListN.{length, length-append}
-use Rattle.rules.specs.Common.{if_then_else_, lowest, better, best, countBelow, allBelow, inOrder}
+use Rattle.rules.specs.Common.{if_then_else_, lowest, countBelow, allBelow, inOrder}
 use Rattle.rules.proofs.Splits.{split, same?, option?, true-not-false, some-not-none}
 
 -- ---- the lowest
@@ -33,6 +33,13 @@ module _ (test : ℕ → Bool) where
   -- a turn of a search that found nothing
   pub lowest-next : (i : ℕ) → lowest test i ≡ none → test i ≡ false → lowest test (i + 1) ≡ none
   lowest-next i e f = rw add-one (lowest-fails i e f)
+
+  -- a search that goes on over numbers that do not pass
+  pub lowest-skips : (i n : ℕ) → i ≤ n → lowest test i ≡ none → ((j : ℕ) → i ≤ j → j < n → test j ≡ false) → lowest test n ≡ none
+  lowest-skips i zero l e h = lowest-none
+  lowest-skips i (suc n) l e h = same? i (suc n)
+      (λ q. rw (← q) e)
+      (λ ne. lowest-fails n (lowest-skips i n (omega arith) e (λ j a b. h j a (omega arith))) (h n (omega arith) (omega arith)))
 
   -- the number at which a search stops
   pub lowest-at : (i n : ℕ) → lowest test i ≡ none → test i ≡ true → i < n → lowest test n ≡ some i

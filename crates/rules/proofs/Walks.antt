@@ -1,16 +1,15 @@
 -- The walks to the parents: one equation for each thing that a visit can find.
 use mathlib.Core.Path.{_≡_, refl}
 use mathlib.Core.Logic.{_≢_}
-use mathlib.Core.Bool.{Bool, true, false, not}
+use mathlib.Core.Bool.{true, false}
 use mathlib.Core.List.{List}
 use Prim.Native.Nat.{ℕ, zero, suc, _<_}
 use native.Mathlib.Omega.{arith}
 use borrow.Author.Tests.{eq-eqb, ne-eqb}
-use lib.Dec.{eqb}
 use Rattle.rules.specs.Common.{if_then_else_}
 use Rattle.rules.specs.Records.{NONE, parentAt, occupied, active}
 use Rattle.rules.specs.BlockTable.{reaches, walksToActive}
-use Rattle.rules.specs.Anchor.{Anchor, connection, tail, anchorFrom}
+use Rattle.rules.specs.Anchor.{connection, tail, anchorFrom}
 
 module _ (parents sequences : List ℕ) (root : ℕ) where
   pub reaches-spent : (k i : ℕ) → k ≡ 0 → reaches parents sequences root k i ≡ false

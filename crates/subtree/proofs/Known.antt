@@ -1,9 +1,9 @@
 -- What each step of a walk keeps of what is remembered.
-use mathlib.Core.Path.{_≡_, refl, sym, _∙_}
+use mathlib.Core.Path.{_≡_, _∙_}
 use mathlib.Core.Logic.{_≢_}
-use mathlib.Core.Bool.{Bool, true, false, not}
+use mathlib.Core.Bool.{Bool, true}
 use mathlib.Core.List.{List}
-use Prim.Native.Nat.{ℕ, zero, suc, _≤_, _<_}
+use Prim.Native.Nat.{ℕ, suc, _≤_, _<_}
 use native.Mathlib.Omega.{arith}
 use lib.Dec.{eqb}
 use lib.ListN.{length, getD, set, replicate, getD-replicate, length-replicate, List·getD-eq-default}
@@ -14,7 +14,7 @@ use Rattle.rules.specs.BlockTable.{reaches}
 use Rattle.rules.proofs.Splits.{split, same?, less?}
 use Rattle.rules.proofs.Cells.{getD-any}
 use Rattle.rules.proofs.Walks.{reaches-root, reaches-empty, reaches-end, reaches-up}
-use Rattle.subtree.specs.Known.{knownAt, above, told, Right}
+use Rattle.subtree.specs.Known.{knownAt, above, told, atOnce, Right}
 use Rattle.subtree.proofs.Steady.{told-above}
 
 pub small-parents : (parents : List ℕ) → ((i : ℕ) → getD parents i 0 ≤ NONE) → (i : ℕ) → parentAt parents i ≤ NONE
@@ -58,6 +58,20 @@ module _ (parents sequences : List ℕ) (root : ℕ) (known : List ℕ) where
         reaches-end parents sequences root (slotsOf sequences) i l nr o p ∙ rw (ne-eqb i root nr, z))
         (λ o. reaches-empty parents sequences root (slotsOf sequences) i l nr o ∙ rw (ne-eqb i root nr, z)))
         (λ nz. r .right i nz ∙ rw (ne-eqb i root nr, ne-eqb (knownAt known i) 0 nz)))
+
+    -- so does what is told without a walk
+    pub at-once-told : (i : ℕ) → i < NONE → 0 < slotsOf sequences → occupied sequences i ≡ true → atOnce parents root known i ≢ 0
+        → walk (slotsOf sequences) i ≡ eqb (atOnce parents root known i) 1
+    unfolding atOnce
+    at-once-told i l h o nz = same? (knownAt known i) 0
+        (λ z. same? i root
+        (λ q. reaches-root parents sequences root (slotsOf sequences) i h q ∙ rw (z, eq-eqb i root q))
+        (λ nr. same? (parentAt parents i) NONE
+        (λ e. reaches-end parents sequences root (slotsOf sequences) i h nr o e ∙ rw (z, ne-eqb i root nr, eq-eqb (parentAt parents i) NONE e))
+        (λ np.
+        let e : atOnce parents root known i ≡ knownAt known (parentAt parents i) = rw (z, ne-eqb i root nr, ne-eqb (parentAt parents i) NONE np) in
+        told-above parents sequences root small (r .there) i l nr o np ∙ r .right (parentAt parents i) (λ q. nz (e ∙ q)) ∙ rw e)))
+        (λ k. r .right i k ∙ rw (ne-eqb (knownAt known i) 0 k))
 
   -- a byte that tells what the rule gives may be written
   pub remembered : (i byte : ℕ) → Right parents sequences root known → walk (slotsOf sequences) i ≡ eqb byte 1 → Right parents sequences root (set known i byte)

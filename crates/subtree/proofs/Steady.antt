@@ -7,7 +7,6 @@ use Prim.Native.Nat.{ℕ, zero, suc, _≤_, _<_}
 use native.Mathlib.Omega.{arith}
 use lib.Dec.{eqb}
 use lib.ListN.{length, List·getD-eq-default}
-use borrow.Author.Tests.{eq-eqb}
 use Rattle.rules.specs.Common.{countBelow}
 use Rattle.rules.specs.Records.{NONE, slotsOf, sequenceAt, parentAt, occupied}
 use Rattle.rules.specs.BlockTable.{reaches}

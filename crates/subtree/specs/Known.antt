@@ -28,6 +28,14 @@ told root known i =
     else if eqb (knownAt known i) 0 then 2
     else knownAt known i
 
+-- what is told of an occupied slot without a walk: 0 where neither it nor its parent is known
+unfoldable pub atOnce : (parents : List ℕ) → ℕ → List ℕ → ℕ → ℕ
+atOnce parents root known i =
+    if not (eqb (knownAt known i) 0) then knownAt known i
+    else if eqb i root then 1
+    else if eqb (parentAt parents i) NONE then 2
+    else knownAt known (parentAt parents i)
+
 -- the root is there, and what is known is what the rule gives
 pub record Right (parents sequences : List ℕ) (root : ℕ) (known : List ℕ) : Type 0 where
   pub there : occupied sequences root ≡ true

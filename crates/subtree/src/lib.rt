@@ -8,7 +8,7 @@ ghost use lib.Seq.{sets};
 ghost use Rattle.rules.specs.Records.{slotsOf};
 ghost use Rattle.rules.specs.BlockTable.{reaches, inSubtree, markSubtree};
 ghost use Rattle.subtree.specs.Active.{anyActive};
-ghost use Rattle.subtree.specs.Known.{above as aboveRule, told, Right};
+ghost use Rattle.subtree.specs.Known.{above as aboveRule, told, atOnce, Right};
 use blocks::is_occupied;
 use blocks::is_on_active_chain;
 use cells::byte_at;
@@ -50,6 +50,24 @@ fn told_at(root: BlockSlot, known: &[u8], slot: u32) -> u8
         return MISSES;
     }
     byte
+}
+
+// What is told of an occupied slot without a walk; 0 where neither it nor its parent is known.
+fn told_at_once(parents: &[u32], root: BlockSlot, known: &[u8], slot: u32) -> u8
+    ensures { λ r. ⌜ r ≡ atOnce (now (parents .entry)) (root .0) (now (known .entry)) slot ⌝ }
+{
+    let byte = byte_at(known, slot);
+    if byte != 0 {
+        return byte;
+    }
+    if slot == root.0 {
+        return REACHES;
+    }
+    let parent = word_at(parents, slot);
+    if parent == BlockSlot::NONE_REF {
+        return MISSES;
+    }
+    byte_at(known, parent)
 }
 
 fn verdict(
@@ -116,6 +134,11 @@ fn is_under(
 {
     if !is_occupied(sequences, slot) {
         return false;
+    }
+    let told = told_at_once(parents, root, known, slot.0);
+    if told != 0 {
+        put_byte(known, slot.0, told);
+        return told == REACHES;
     }
     let byte = verdict(parents, sequences, root, known, slot);
     remember(parents, sequences, root, known, slot, byte);

@@ -1,10 +1,11 @@
 // Parent recovery: due times, the choice of a head to ask for, and the deadline. Port of that part of src/chain_heads.rs.
 ghost use mathlib.Core.Path.{_≡_};
-ghost use Prim.Native.Nat.{ℕ};
-ghost use lib.Dec.{ltb};
-ghost use Rattle.rules.specs.Common.{better, if_then_else_};
-ghost use Rattle.rules.specs.Records.{requestedAt, stored};
-ghost use Rattle.rules.specs.Timer.{due, mayAsk, asksBefore, chosen as chosenRule, claimed as claimedRule, askAt, recovery, markRequested, dueFirst, deadline};
+ghost use mathlib.Core.Bool.{true, _&&_, _||_};
+ghost use lib.Dec.{eqb, ltb, leb};
+ghost use Rattle.rules.specs.Common.{if_then_else_};
+ghost use Rattle.rules.specs.Records.{tipAt, occupied, stored};
+ghost use Rattle.rules.specs.Eviction.{blockBefore};
+ghost use Rattle.rules.specs.Timer.{due, chosen as chosenRule, claimed as claimedRule, askAt, recovery, markRequested, deadline};
 ghost use Rattle.rules.specs.Answers.{headFound, askChosen, deadlineGot};
 use blocks::is_occupied;
 use cells::put_time;
@@ -37,84 +38,56 @@ pub fn head_eligible_at(requested: u64, retry: u64) -> u64
 fn may_ask(
     sequences: &[u32],
     tips: &[u32],
-    requested: &[u64],
     connected: &[u8],
     clock: u64,
     retry: u64,
+    time: u64,
     head: HeadSlot,
 ) -> bool
-    ensures { λ r. ⌜ r ≡ mayAsk (now (sequences .entry)) (now (tips .entry)) (now (requested .entry)) (now (connected .entry)) clock retry (head .0) ⌝ }
+    ensures { λ r. ⌜ r ≡ (stored (now (tips .entry)) (now (connected .entry)) (head .0) && leb (due time retry) clock && occupied (now (sequences .entry)) (tipAt (now (tips .entry)) (head .0))) ⌝ }
 {
     if !is_stored(tips, connected, head) {
         return false;
     }
-    if clock < head_eligible_at(time_at(requested, head.0), retry) {
+    if clock < head_eligible_at(time, retry) {
         return false;
     }
     is_occupied(sequences, BlockSlot(word_at(tips, head.0)))
 }
 
-fn asks_before(
+fn is_as_soon(any: bool, least: u64, time: u64) -> bool
+    ensures { λ r. ⌜ r ≡ (if any then leb time least else true) ⌝ }
+{
+    if any {
+        return time <= least;
+    }
+    true
+}
+
+fn asks_first(
     hashes: &[u8],
     sequences: &[u32],
     tips: &[u32],
-    requested: &[u64],
-    a: HeadSlot,
-    b: HeadSlot,
+    any: bool,
+    best: HeadSlot,
+    least: u64,
+    head: HeadSlot,
+    time: u64,
 ) -> bool
-    ensures { λ r. ⌜ r ≡ asksBefore (now (hashes .entry)) (now (sequences .entry)) (now (tips .entry)) (now (requested .entry)) (a .0) (b .0) ⌝ }
+    ensures { λ r. ⌜ r ≡ (if any then ltb time least || (eqb time least && blockBefore (now (hashes .entry)) (now (sequences .entry)) (tipAt (now (tips .entry)) (head .0)) (tipAt (now (tips .entry)) (best .0))) else true) ⌝ }
 {
-    let first = time_at(requested, a.0);
-    let second = time_at(requested, b.0);
-    if first < second {
+    if !any {
         return true;
     }
-    if first != second {
+    if time < least {
+        return true;
+    }
+    if time != least {
         return false;
     }
-    let tip = BlockSlot(word_at(tips, a.0));
-    let other = BlockSlot(word_at(tips, b.0));
+    let tip = BlockSlot(word_at(tips, head.0));
+    let other = BlockSlot(word_at(tips, best.0));
     block_before(hashes, sequences, tip, other)
-}
-
-fn better_ask(
-    hashes: &[u8],
-    sequences: &[u32],
-    tips: &[u32],
-    requested: &[u64],
-    found: FoundHead,
-    head: HeadSlot,
-) -> FoundHead
-    ensures { λ r. ⌜ headFound r ≡ better (asksBefore (now (hashes .entry)) (now (sequences .entry)) (now (tips .entry)) (now (requested .entry))) (head .0) (headFound found) ⌝ }
-{
-    let FoundHead::At(best) = found else {
-        return FoundHead::At(head);
-    };
-    if asks_before(hashes, sequences, tips, requested, head, best) {
-        return FoundHead::At(head);
-    }
-    FoundHead::At(best)
-}
-
-fn ask_turn(
-    hashes: &[u8],
-    sequences: &[u32],
-    tips: &[u32],
-    requested: &[u64],
-    connected: &[u8],
-    clock: u64,
-    retry: u64,
-    found: FoundHead,
-    head: HeadSlot,
-) -> FoundHead
-    ensures { λ r. ⌜ headFound r ≡ (if mayAsk (now (sequences .entry)) (now (tips .entry)) (now (requested .entry)) (now (connected .entry)) clock retry (head .0)
-        then better (asksBefore (now (hashes .entry)) (now (sequences .entry)) (now (tips .entry)) (now (requested .entry))) (head .0) (headFound found)
-        else headFound found) ⌝ }
-{
-    if may_ask(sequences, tips, requested, connected, clock, retry, head) {
-        return better_ask(hashes, sequences, tips, requested, found, head);
-    }
-    found
 }
 
 fn chosen(
@@ -129,23 +102,36 @@ fn chosen(
     ensures { λ r. ⌜ headFound r ≡ chosenRule (now (hashes .entry)) (now (sequences .entry)) (now (tips .entry)) (now (requested .entry)) (now (connected .entry)) clock retry ⌝ }
 {
     let m = slots(tips);
-    let mut found = FoundHead::Nothing;
+    let mut any = false;
+    let mut best: u32 = 0;
+    let mut least: u64 = 0;
     let mut k: u32 = 0;
     while k < m {
-        found = ask_turn(
-            hashes,
-            sequences,
-            tips,
-            requested,
-            connected,
-            clock,
-            retry,
-            found,
-            HeadSlot(k),
-        );
+        let time = time_at(requested, k);
+        if is_as_soon(any, least, time) {
+            if may_ask(sequences, tips, connected, clock, retry, time, HeadSlot(k)) {
+                if asks_first(
+                    hashes,
+                    sequences,
+                    tips,
+                    any,
+                    HeadSlot(best),
+                    least,
+                    HeadSlot(k),
+                    time,
+                ) {
+                    any = true;
+                    best = k;
+                    least = time;
+                }
+            }
+        }
         k += 1;
     }
-    found
+    if any {
+        return FoundHead::At(HeadSlot(best));
+    }
+    FoundHead::Nothing
 }
 
 fn claimed(tail: Sequence) -> Sequence
@@ -195,53 +181,13 @@ pub fn mark_requested(requested: &mut [u64], head: HeadSlot, clock: u64)
 
 // ---- the deadline
 
-fn due_at(requested: &[u64], retry: u64, head: HeadSlot) -> u64
-    ensures { λ r. ⌜ r ≡ due (requestedAt (now (requested .entry)) (head .0)) retry ⌝ }
+fn is_sooner(any: bool, least: u64, time: u64) -> bool
+    ensures { λ r. ⌜ r ≡ (if any then ltb time least else true) ⌝ }
 {
-    head_eligible_at(time_at(requested, head.0), retry)
-}
-
-fn better_due(requested: &[u64], retry: u64, found: FoundHead, head: HeadSlot) -> FoundHead
-    ensures { λ r. ⌜ headFound r ≡ better (λ (j k : ℕ). ltb (due (requestedAt (now (requested .entry)) j) retry) (due (requestedAt (now (requested .entry)) k) retry)) (head .0) (headFound found) ⌝ }
-{
-    let FoundHead::At(best) = found else {
-        return FoundHead::At(head);
-    };
-    if due_at(requested, retry, head) < due_at(requested, retry, best) {
-        return FoundHead::At(head);
+    if any {
+        return time < least;
     }
-    FoundHead::At(best)
-}
-
-fn due_turn(
-    tips: &[u32],
-    requested: &[u64],
-    connected: &[u8],
-    retry: u64,
-    found: FoundHead,
-    head: HeadSlot,
-) -> FoundHead
-    ensures { λ r. ⌜ headFound r ≡ (if stored (now (tips .entry)) (now (connected .entry)) (head .0)
-        then better (λ (j k : ℕ). ltb (due (requestedAt (now (requested .entry)) j) retry) (due (requestedAt (now (requested .entry)) k) retry)) (head .0) (headFound found)
-        else headFound found) ⌝ }
-{
-    if is_stored(tips, connected, head) {
-        return better_due(requested, retry, found, head);
-    }
-    found
-}
-
-fn due_first(tips: &[u32], requested: &[u64], connected: &[u8], retry: u64) -> FoundHead
-    ensures { λ r. ⌜ headFound r ≡ dueFirst (now (tips .entry)) (now (requested .entry)) (now (connected .entry)) retry ⌝ }
-{
-    let m = slots(tips);
-    let mut found = FoundHead::Nothing;
-    let mut k: u32 = 0;
-    while k < m {
-        found = due_turn(tips, requested, connected, retry, found, HeadSlot(k));
-        k += 1;
-    }
-    found
+    true
 }
 
 pub fn earliest_recovery_deadline(
@@ -252,9 +198,22 @@ pub fn earliest_recovery_deadline(
 ) -> Deadline
     ensures { λ r. ⌜ deadlineGot r ≡ deadline (now (tips .entry)) (now (requested .entry)) (now (connected .entry)) retry ⌝ }
 {
-    let found = due_first(tips, requested, connected, retry);
-    let FoundHead::At(head) = found else {
+    let m = slots(tips);
+    let mut any = false;
+    let mut least: u64 = 0;
+    let mut k: u32 = 0;
+    while k < m {
+        let time = time_at(requested, k);
+        if is_sooner(any, least, time) {
+            if is_stored(tips, connected, HeadSlot(k)) {
+                any = true;
+                least = time;
+            }
+        }
+        k += 1;
+    }
+    if !any {
         return Deadline::Never;
-    };
-    Deadline::At(due_at(requested, retry, head))
+    }
+    Deadline::At(head_eligible_at(least, retry))
 }

@@ -6,7 +6,7 @@ use Prim.Native.Nat.{ℕ, zero, suc, _+_, _-_, _/_, _<_, _≤_, min, max}
 use native.Mathlib.Nat.{add-zero}
 use native.Mathlib.Omega.{arith}
 use borrow.Author.Tests.{lt-ltb, le-ltb}
-use lib.ListN.{length, set, length-set, length-append}
+use lib.ListN.{length, set, length-append}
 use lib.Seq.{sets, set-out, length-sets}
 use Rattle.rules.proofs.Splits.{less?}
 use Rattle.trial_lines.specs.Writing.{place, digit, digitsIn}

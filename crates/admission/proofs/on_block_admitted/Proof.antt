@@ -1,19 +1,18 @@
 -- The count, the head, the late tails.
-use mathlib.Core.Path.{_≡_, refl, sym, ap, _∙_}
+use mathlib.Core.Path.{_∙_}
 use Rattle.rules.specs.BlockTable.{adjust}
 use Rattle.rules.specs.Admission.{admitted}
-use borrow.Author.Needs.{needs}
 use Rattle.admission.proofs.on_block_admitted.Statement.{statement}
 use Rattle.admission.proofs.on_block_admitted.Tie as tie
 
 adjust-head-ref-count-requires : tie.Need-adjust-head-ref-count-requires
-adjust-head-ref-count-requires c κs = search needs
+adjust-head-ref-count-requires c κs = tt
 
 place-head-requires : tie.Need-place-head-requires
-place-head-requires c κs = search needs
+place-head-requires c κs = tt
 
 resolve-pending-tails-requires : tie.Need-resolve-pending-tails-requires
-resolve-pending-tails-requires c κs = search needs
+resolve-pending-tails-requires c κs = tt
 
 same-length : tie.Need-same-length
 same-length c = c .before .before .before .before .before .before .before .before .before .before .before .before .before .before .before .before .before .before .before .before .before .before .before .before .before .before .before .before .before .before .before .before .before .before .before .before .before .before .before .before .before .before .before .before .before .before .before .before .before .before .place-head .kept .0

@@ -9,7 +9,7 @@ use Rattle.admit_call.proofs.admit.Statement.{statement}
 use Rattle.admit_call.proofs.admit.Tie as tie
 
 reply-requires : tie.Need-reply-requires
-reply-requires c κs = search needs
+reply-requires c κs = tt
 
 enum-known-why : tie.Need-enum-known-why
 enum-known-why c = search needs
@@ -18,10 +18,10 @@ enum-known-slot : tie.Need-enum-known-slot
 enum-known-slot c = search needs
 
 hash-at-requires : tie.Need-hash-at-requires
-hash-at-requires c κs = search needs
+hash-at-requires c κs = tt
 
 admit-at-requires : tie.Need-admit-at-requires
-admit-at-requires c κs = search needs
+admit-at-requires c κs = tt
 
 same-length : tie.Need-same-length
 same-length c = refl

@@ -6,7 +6,7 @@ use Rattle.admit_reply.proofs.is_known.Statement.{statement}
 use Rattle.admit_reply.proofs.is_known.Tie as tie
 
 find-requires : tie.Need-find-requires
-find-requires c κs = search needs
+find-requires c κs = tt
 
 enum-told : tie.Need-enum-told
 enum-told c = search needs

@@ -16,7 +16,7 @@ use Rattle.admit_reply.proofs.reply.Statement.{statement}
 use Rattle.admit_reply.proofs.reply.Tie as tie
 
 is-shaped-requires : tie.Need-is-shaped-requires
-is-shaped-requires c κs = search needs
+is-shaped-requires c κs = tt
 
 returns : tie.Need-returns
 unfolding admit
@@ -47,10 +47,10 @@ returns-4 c =
     λ a t. rw (e, eq-eqb _ _ (c .before .before .before .if2 .left), eq-eqb _ _ (c .before .before .if3 .left), eq-eqb _ _ (c .if4 .taken))
 
 hash-at-requires : tie.Need-hash-at-requires
-hash-at-requires c κs = search needs
+hash-at-requires c κs = tt
 
 same-hash-requires : tie.Need-same-hash-requires
-same-hash-requires c κs = search needs
+same-hash-requires c κs = tt
 
 returns-5 : tie.Need-returns-5
 unfolding admit
@@ -62,7 +62,7 @@ returns-5 c =
     λ a t. rw (e, eq-eqb _ _ (c .before .before .before .before .before .before .if2 .left), eq-eqb _ _ (c .before .before .before .before .before .if3 .left), ne-eqb _ _ (c .before .before .before .if4 .left), z)
 
 is-known-requires : tie.Need-is-known-requires
-is-known-requires c κs = search needs
+is-known-requires c κs = tt
 
 returns-6 : tie.Need-returns-6
 unfolding admit
@@ -76,7 +76,7 @@ returns-6 c =
     λ a t. rw (e, eq-eqb _ _ (c .before .before .before .before .before .before .before .before .if2 .left), eq-eqb _ _ (c .before .before .before .before .before .before .before .if3 .left), ne-eqb _ _ (c .before .before .before .before .before .if4 .left), z, k)
 
 next-free-index-requires : tie.Need-next-free-index-requires
-next-free-index-requires c κs = search needs
+next-free-index-requires c κs = tt
 
 enum-told : tie.Need-enum-told
 enum-told c = search needs

@@ -4,27 +4,26 @@ use Rattle.rules.specs.Hashes.{hashAt}
 use Rattle.rules.specs.BlockTable.{findParent}
 use Rattle.rules.specs.Answers.{slotFound}
 use Rattle.rules.specs.Calls.{slotOrNone}
-use borrow.Author.Needs.{needs}
 use Rattle.admit_step.proofs.admit_at.Statement.{statement}
 use Rattle.admit_step.proofs.admit_at.Tie as tie
 
 hash-at-requires : tie.Need-hash-at-requires
-hash-at-requires c κs = search needs
+hash-at-requires c κs = tt
 
 find-parent-requires : tie.Need-find-parent-requires
-find-parent-requires c κs = search needs
+find-parent-requires c κs = tt
 
 slot-or-none-requires : tie.Need-slot-or-none-requires
-slot-or-none-requires c κs = search needs
+slot-or-none-requires c κs = tt
 
 insert-at-requires : tie.Need-insert-at-requires
-insert-at-requires c κs = search needs
+insert-at-requires c κs = tt
 
 on-block-admitted-requires : tie.Need-on-block-admitted-requires
-on-block-admitted-requires c κs = search needs
+on-block-admitted-requires c κs = tt
 
 refresh-tails-requires : tie.Need-refresh-tails-requires
-refresh-tails-requires c κs = search needs
+refresh-tails-requires c κs = tt
 
 same-length : tie.Need-same-length
 same-length c = c .before .before .before .before .before .before .before .before .before .before .before .before .before .before .before .before .before .before .before .before .before .before .before .before .before .before .before .before .before .before .before .before .before .before .before .before .before .before .before .before .before .before .on-block-admitted .kept .0 ∙ c .before .before .before .before .before .before .before .before .before .before .before .before .before .before .before .before .before .before .before .before .before .before .before .before .before .before .before .before .before .before .before .before .before .before .before .before .before .before .before .before .before .before .before .before .before .before .before .before .before .before .before .before .before .before .before .before .before .before .before .before .before .before .before .before .insert-at .kept .0

@@ -1,7 +1,6 @@
 -- The heads before `k` are done.
-use borrow.Author.Needs.{needs}
 use native.Mathlib.Omega.{arith}
-use Prim.Native.Nat.{ℕ, _≤_, _-_, _+_}
+use Prim.Native.Nat.{_≤_, _-_}
 use mathlib.Core.Path.{_≡_, refl, sym, _∙_}
 use lib.ListN.{length}
 use Rattle.rules.specs.Common.{inOrder}
@@ -18,13 +17,13 @@ abbrev μ-loop : tie.MeasureT-loop
 μ-loop parents sequences flags tips tails₀ missing₀ requested₀ connected₀ m k₀ tails missing requested connected k = m - k
 
 slots-requires : tie.Need-slots-requires Inv-loop μ-loop
-slots-requires c κs = search needs
+slots-requires c κs = tt
 
 loop-holds : tie.Need-loop-holds Inv-loop μ-loop
 loop-holds c = (omega arith, ((refl, (refl, (refl, refl))), sym (in-order-none _ _)))
 
 recompute-used-requires : tie.Need-recompute-used-requires Inv-loop μ-loop
-recompute-used-requires c κs = search needs
+recompute-used-requires c κs = tt
 
 add-k : tie.Need-add-k Inv-loop μ-loop
 add-k c = omega arith

@@ -1,5 +1,5 @@
 -- An empty head is left alone.
-use mathlib.Core.Path.{_≡_, refl, sym, _∙_}
+use mathlib.Core.Path.{_≡_, sym, _∙_}
 use mathlib.Core.Bool.{true, false}
 use Rattle.rules.specs.Records.{used}
 use Rattle.rules.specs.Caches.{recomputeUsed}
@@ -8,10 +8,10 @@ use Rattle.all_caches.proofs.recompute_used.Statement.{statement}
 use Rattle.all_caches.proofs.recompute_used.Tie as tie
 
 is-used-requires : tie.Need-is-used-requires
-is-used-requires c κs = search needs
+is-used-requires c κs = tt
 
 recompute-alone-requires : tie.Need-recompute-alone-requires
-recompute-alone-requires c κs = search needs
+recompute-alone-requires c κs = tt
 
 same-length : tie.Need-same-length
 same-length c = search needs

@@ -3,52 +3,68 @@ use borrow.Author.Needs.{needs}
 use native.Mathlib.Omega.{arith}
 use Prim.Native.Nat.{ℕ, suc, _≤_, _-_, _+_}
 use native.Mathlib.Nat.{sub-zero}
-use mathlib.Core.Path.{_≡_, sym, _∙_, ap}
-use mathlib.Core.Bool.{true, false}
-use borrow.Author.Tests.{not-true, not-false}
+use mathlib.Core.Path.{_≡_, sym, _∙_}
+use Rattle.rules.specs.Records.{NONE}
 use Rattle.rules.specs.Anchor.{anchorFrom, locateAnchor}
-use Rattle.rules.proofs.Walks.{anchor-spent, anchor-empty, anchor-active, anchor-root, anchor-up}
+use Rattle.rules.proofs.Cells.{getD-any}
+use Rattle.rules.proofs.Walks.{anchor-spent, anchor-empty, anchor-active}
+use Rattle.anchor.proofs.Range.{past-the-end, empty-in-range, occupied-in-range, bit-set, bit-clear, anchor-goes}
 use Rattle.anchor.proofs.locate_anchor.Statement.{statement}
 use Rattle.anchor.proofs.locate_anchor.Tie as tie
 
 abbrev Inv-loop : tie.InvT-loop
-Inv-loop parents sequences flags n current₀ last₀ visits₀ current last visits = (visits ≤ n) × (anchorFrom parents sequences flags n last₀ current₀ ≡ anchorFrom parents sequences flags (n - visits) last current)
+Inv-loop parents sequences flags n len current₀ last₀ visits₀ current last visits = (visits ≤ n) × (anchorFrom parents sequences flags n last₀ current₀ ≡ anchorFrom parents sequences flags (n - visits) last current)
 
 abbrev μ-loop : tie.MeasureT-loop
-μ-loop parents sequences flags n current₀ last₀ visits₀ current last visits = n - visits
+μ-loop parents sequences flags n len current₀ last₀ visits₀ current last visits = n - visits
 
 slots-requires : tie.Need-slots-requires Inv-loop μ-loop
-slots-requires c κs = search needs
+slots-requires c κs = tt
+
+cast-len : tie.Need-cast-len Inv-loop μ-loop
+cast-len c = search needs
 
 loop-holds : tie.Need-loop-holds Inv-loop μ-loop
 loop-holds c = (omega arith, rw sub-zero)
 
-is-occupied-requires : tie.Need-is-occupied-requires Inv-loop μ-loop
-is-occupied-requires c κs = search needs
-
 returns : tie.Need-returns Inv-loop μ-loop
 unfolding locateAnchor
 returns c =
-    rw (← c .before .before .before .before .slots .ensures) (sym (c .before .before .before .loop .inv .1 ∙ anchor-empty _ _ _ (c .before .before .before .before .slots .result - c .before .before .before .loop .visits) (c .before .before .before .loop .last) (c .before .before .before .loop .current) (omega arith)
-    (sym (c .before .is-occupied .ensures) ∙ not-true (c .before .is-occupied .result) (c .if1 .taken))))
+    let n = c .before .before .before .before .before .before .slots in
+    let l = c .before .before .loop in
+    rw (← n .ensures) (sym (l .inv .1 ∙ anchor-empty _ _ _ (n .result - l .visits) (l .last) (l .current) (omega arith) (past-the-end _ (l .current) (omega arith))))
 
-is-on-active-chain-requires : tie.Need-is-on-active-chain-requires Inv-loop μ-loop
-is-on-active-chain-requires c κs = search needs
+cast-k : tie.Need-cast-k Inv-loop μ-loop
+cast-k c = search needs
+
+mul-if5 : tie.Need-mul-if5 Inv-loop μ-loop
+mul-if5 c = search needs
+
+shared-slice-read-if5 : tie.Need-shared-slice-read-if5 Inv-loop μ-loop
+shared-slice-read-if5 c = omega arith
 
 returns-2 : tie.Need-returns-2 Inv-loop μ-loop
 unfolding locateAnchor
 returns-2 c =
-    rw (← c .before .before .before .before .before .before .slots .ensures) (sym (c .before .before .before .before .before .loop .inv .1 ∙ anchor-active _ _ _ (c .before .before .before .before .before .before .slots .result - c .before .before .before .before .before .loop .visits) (c .before .before .before .before .before .loop .last) (c .before .before .before .before .before .loop .current) (omega arith)
-    (sym (c .before .before .before .is-occupied .ensures) ∙ not-false (c .before .before .before .is-occupied .result) (c .before .before .if1 .left)) (sym (c .before .is-on-active-chain .ensures) ∙ c .if2 .taken)))
+    let n = c .before .before .before .before .before .before .before .before .slots in
+    let l = c .before .before .before .before .loop in
+    rw (← n .ensures) (sym (l .inv .1 ∙ anchor-empty _ _ _ (n .result - l .visits) (l .last) (l .current) (omega arith) (empty-in-range _ (l .current) (omega arith) (c .if5 .taken))))
 
-word-at-requires : tie.Need-word-at-requires Inv-loop μ-loop
-word-at-requires c κs = search needs
+shared-slice-read-if6 : tie.Need-shared-slice-read-if6 Inv-loop μ-loop
+shared-slice-read-if6 c = omega arith
 
 returns-3 : tie.Need-returns-3 Inv-loop μ-loop
 unfolding locateAnchor
 returns-3 c =
-    rw (← c .before .before .before .before .before .before .before .before .slots .ensures) (sym (c .before .before .before .before .before .before .before .loop .inv .1 ∙ anchor-root _ _ _ (c .before .before .before .before .before .before .before .before .slots .result - c .before .before .before .before .before .before .before .loop .visits) (c .before .before .before .before .before .before .before .loop .last) (c .before .before .before .before .before .before .before .loop .current) (omega arith)
-    (sym (c .before .before .before .before .before .is-occupied .ensures) ∙ not-false (c .before .before .before .before .before .is-occupied .result) (c .before .before .before .before .if1 .left)) (sym (c .before .before .before .is-on-active-chain .ensures) ∙ c .before .before .if2 .left) (sym (c .before .word-at .ensures) ∙ c .if3 .taken)))
+    let n = c .before .before .before .before .before .before .before .before .before .before .slots in
+    let l = c .before .before .before .before .before .before .loop in
+    rw (← n .ensures) (sym (l .inv .1 ∙ anchor-active _ _ _ (n .result - l .visits) (l .last) (l .current) (omega arith) (occupied-in-range _ (l .current) (omega arith) (c .before .before .if5 .left)) (bit-set _ (l .current) (c .if6 .taken))))
+
+mul-current : tie.Need-mul-current Inv-loop μ-loop
+mul-current c = search needs
+
+shared-slice-read-current : tie.Need-shared-slice-read-current Inv-loop μ-loop
+shared-slice-read-current c = omega arith
 
 add-visits : tie.Need-add-visits Inv-loop μ-loop
 add-visits c = omega arith
@@ -58,16 +74,26 @@ loop-less c = omega arith
 
 loop-again : tie.Need-loop-again Inv-loop μ-loop
 loop-again c =
-    let k : ℕ = c .before .before .before .before .before .before .before .before .slots .result - (c .before .before .before .before .before .before .before .loop .visits + 1) in
-    let e : c .before .before .before .before .before .before .before .before .slots .result - c .before .before .before .before .before .before .before .loop .visits ≡ suc k = omega arith in (
+    let n = c .before .before .before .before .before .before .before .before .before .before .before .slots in
+    let l = c .before .before .before .before .before .before .before .loop in
+    let k : ℕ = n .result - (l .visits + 1) in
+    let e : n .result - l .visits ≡ suc k = omega arith in (
       omega arith,
-      c .before .before .before .before .before .before .before .loop .inv .1 ∙ rw (e, c .before .word-at .ensures) (anchor-up _ _ _ k (c .before .before .before .before .before .before .before .loop .last) (c .before .before .before .before .before .before .before .loop .current)
-          (sym (c .before .before .before .before .before .is-occupied .ensures) ∙ not-false (c .before .before .before .before .before .is-occupied .result) (c .before .before .before .before .if1 .left)) (sym (c .before .before .before .is-on-active-chain .ensures) ∙ c .before .before .if2 .left) (λ q. c .if3 .left (c .before .word-at .ensures ∙ q))),
+      l .inv .1 ∙ rw (e, getD-any (c .before .before .before .before .before .before .before .before .before .before .before .before .before .before .before .args .parents .now) (l .current) 0 NONE (omega arith)) (anchor-goes _ _ _ k (l .last) (l .current) (omega arith) (occupied-in-range _ (l .current) (omega arith) (c .before .before .before .if5 .left)) (bit-clear _ (l .current) (c .before .if6 .left))),
     )
 
 returns-4 : tie.Need-returns-4 Inv-loop μ-loop
 unfolding locateAnchor
-returns-4 c = rw (← c .before .before .slots .ensures) (sym (c .before .loop .inv .1 ∙ anchor-spent _ _ _ (c .before .before .slots .result - c .before .loop .visits) (c .before .loop .last) (c .before .loop .current) (omega arith)))
+returns-4 c =
+    let n = c .before .before .before .before .before .slots in
+    let l = c .before .loop in
+    rw (← n .ensures) (sym (l .inv .1 ∙ anchor-spent _ _ _ (n .result - l .visits) (l .last) (l .current) (omega arith)))
+
+locate-by-total-reads-requires : tie.Need-locate-by-total-reads-requires Inv-loop μ-loop
+locate-by-total-reads-requires c κs = tt
+
+returns-5 : tie.Need-returns-5 Inv-loop μ-loop
+returns-5 c = c .locate-by-total-reads .ensures
 
 pub locate-anchor-spec : {M : Type 1} → statement M
 locate-anchor-spec =
@@ -76,14 +102,20 @@ locate-anchor-spec =
     Inv-loop
     μ-loop
     slots-requires
+    cast-len
     loop-holds
-    is-occupied-requires
     returns
-    is-on-active-chain-requires
+    cast-k
+    mul-if5
+    shared-slice-read-if5
     returns-2
-    word-at-requires
+    shared-slice-read-if6
     returns-3
+    mul-current
+    shared-slice-read-current
     add-visits
     loop-less
     loop-again
-    returns-4)
+    returns-4
+    locate-by-total-reads-requires
+    returns-5)

@@ -1,4 +1,4 @@
-use mathlib.Core.Path.{_≡_, sym, ap, _∙_}
+use mathlib.Core.Path.{sym, ap}
 use Rattle.as_numbers.specs.Numbers.{anchorNumber}
 use Rattle.rules.specs.Answers.{anchorLocated}
 use borrow.Author.Needs.{needs}

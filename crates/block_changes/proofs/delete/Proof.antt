@@ -1,5 +1,5 @@
 -- An empty slot keeps its fields.
-use mathlib.Core.Path.{_≡_, refl, sym, _∙_}
+use mathlib.Core.Path.{_≡_, sym, _∙_}
 use mathlib.Core.Bool.{true, false}
 use borrow.Author.Tests.{not-true, not-false}
 use Rattle.rules.specs.Records.{occupied}
@@ -9,7 +9,7 @@ use Rattle.block_changes.proofs.delete.Statement.{statement}
 use Rattle.block_changes.proofs.delete.Tie as tie
 
 is-occupied-requires : tie.Need-is-occupied-requires
-is-occupied-requires c κs = search needs
+is-occupied-requires c κs = tt
 
 same-length : tie.Need-same-length
 same-length c = search needs
@@ -21,10 +21,10 @@ returns c =
     (sym e, rw e)
 
 empty-requires : tie.Need-empty-requires
-empty-requires c κs = search needs
+empty-requires c κs = tt
 
 put-block-requires : tie.Need-put-block-requires
-put-block-requires c κs = search needs
+put-block-requires c κs = tt
 
 same-length-2 : tie.Need-same-length-2
 same-length-2 c = search needs

@@ -1,5 +1,5 @@
 -- Beyond n nothing changes.
-use mathlib.Core.Path.{_≡_, refl, sym, _∙_}
+use mathlib.Core.Path.{_∙_}
 use borrow.Author.Tests.{lt-ltb, le-ltb}
 use Prim.Native.Nat.{_<_, _≤_}
 use Rattle.rules.specs.Records.{slotsOf}
@@ -9,10 +9,10 @@ use Rattle.block_changes.proofs.insert_at.Statement.{statement}
 use Rattle.block_changes.proofs.insert_at.Tie as tie
 
 slots-requires : tie.Need-slots-requires
-slots-requires c κs = search needs
+slots-requires c κs = tt
 
 put-block-requires : tie.Need-put-block-requires
-put-block-requires c κs = search needs
+put-block-requires c κs = tt
 
 same-length : tie.Need-same-length
 same-length c = search needs

@@ -1,24 +1,23 @@
 -- The five stores.
-use mathlib.Core.Path.{_≡_}
 use Rattle.rules.specs.Records.{putBlock}
 use borrow.Author.Needs.{needs}
 use Rattle.block_changes.proofs.put_block.Statement.{statement}
 use Rattle.block_changes.proofs.put_block.Tie as tie
 
 put-hash-requires : tie.Need-put-hash-requires
-put-hash-requires c κs = search needs
+put-hash-requires c κs = tt
 
 put-word-requires : tie.Need-put-word-requires
-put-word-requires c κs = search needs
+put-word-requires c κs = tt
 
 put-word-requires-2 : tie.Need-put-word-requires-2
-put-word-requires-2 c κs = search needs
+put-word-requires-2 c κs = tt
 
 put-byte-requires : tie.Need-put-byte-requires
-put-byte-requires c κs = search needs
+put-byte-requires c κs = tt
 
 put-byte-requires-2 : tie.Need-put-byte-requires-2
-put-byte-requires-2 c κs = search needs
+put-byte-requires-2 c κs = tt
 
 same-length : tie.Need-same-length
 same-length c = search needs

@@ -5,7 +5,7 @@ use Rattle.block_changes.proofs.resolve_parent_ref.Statement.{statement
 use Rattle.block_changes.proofs.resolve_parent_ref.Tie as tie
 
 put-word-requires : tie.Need-put-word-requires
-put-word-requires c κs = search needs
+put-word-requires c κs = tt
 
 same-length : tie.Need-same-length
 same-length c = search needs

@@ -1,5 +1,5 @@
 -- Nothing on an empty slot.
-use mathlib.Core.Path.{_≡_, refl, sym, _∙_}
+use mathlib.Core.Path.{_≡_, sym, _∙_}
 use mathlib.Core.Bool.{true, false}
 use borrow.Author.Tests.{not-true, not-false}
 use Rattle.rules.specs.Records.{occupied}
@@ -12,7 +12,7 @@ use Rattle.block_counts.proofs.adjust_head_ref_count.Statement.{stateme
 use Rattle.block_counts.proofs.adjust_head_ref_count.Tie as tie
 
 is-occupied-requires : tie.Need-is-occupied-requires
-is-occupied-requires c κs = search needs
+is-occupied-requires c κs = tt
 
 returns : tie.Need-returns
 unfolding adjustedAt adjustCounts
@@ -21,13 +21,13 @@ returns c =
     (rw e, rw e)
 
 byte-at-requires : tie.Need-byte-at-requires
-byte-at-requires c κs = search needs
+byte-at-requires c κs = tt
 
 adjusted-count-requires : tie.Need-adjusted-count-requires
-adjusted-count-requires c κs = search needs
+adjusted-count-requires c κs = tt
 
 put-byte-requires : tie.Need-put-byte-requires
-put-byte-requires c κs = search needs
+put-byte-requires c κs = tt
 
 same-length : tie.Need-same-length
 same-length c = search needs

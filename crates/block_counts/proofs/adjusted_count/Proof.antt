@@ -1,11 +1,10 @@
 -- The sum in 16 bits, held between 0 and 255.
-use mathlib.Core.Path.{_≡_, sym, _∙_, ap}
+use mathlib.Core.Path.{_≡_}
 use mathlib.Core.Bool.{true, false}
-use lib.IntN.{ℤ, pos}
+use lib.IntN.{pos}
 use lib.Signed.{ltZ}
 use Prim.Native.Nat.{_<_}
 use mir.Syntax.{w8}
-use mir.Val.{SFits}
 use mir.ValLaws.{toZ-ofZ}
 use Rattle.block_counts.proofs.Signed.{widens, sum-fits, sum-read, stored, stored-is, stops-low, stops-high, between}
 use borrow.Author.Needs.{needs}

@@ -1,5 +1,5 @@
 -- An empty slot keeps its count.
-use mathlib.Core.Path.{_≡_, refl, sym, _∙_}
+use mathlib.Core.Path.{_≡_, sym, _∙_}
 use mathlib.Core.Bool.{true, false}
 use borrow.Author.Tests.{not-true, not-false}
 use Rattle.rules.specs.Records.{occupied}
@@ -9,7 +9,7 @@ use Rattle.block_counts.proofs.set_head_ref_count.Statement.{statement}
 use Rattle.block_counts.proofs.set_head_ref_count.Tie as tie
 
 is-occupied-requires : tie.Need-is-occupied-requires
-is-occupied-requires c κs = search needs
+is-occupied-requires c κs = tt
 
 returns : tie.Need-returns
 unfolding setOccupied
@@ -18,7 +18,7 @@ returns c =
     (sym e, rw e)
 
 put-byte-requires : tie.Need-put-byte-requires
-put-byte-requires c κs = search needs
+put-byte-requires c κs = tt
 
 same-length : tie.Need-same-length
 same-length c = search needs

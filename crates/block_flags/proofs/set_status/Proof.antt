@@ -1,5 +1,5 @@
 -- An empty slot keeps its flags.
-use mathlib.Core.Path.{_≡_, refl, sym, _∙_}
+use mathlib.Core.Path.{_≡_, sym, _∙_}
 use mathlib.Core.Bool.{true, false}
 use borrow.Author.Tests.{not-true, not-false}
 use Rattle.rules.specs.Records.{occupied}
@@ -9,7 +9,7 @@ use Rattle.block_flags.proofs.set_status.Statement.{statement}
 use Rattle.block_flags.proofs.set_status.Tie as tie
 
 is-occupied-requires : tie.Need-is-occupied-requires
-is-occupied-requires c κs = search needs
+is-occupied-requires c κs = tt
 
 returns : tie.Need-returns
 unfolding setOccupied setStatus
@@ -18,13 +18,13 @@ returns c =
     (sym e, rw e)
 
 byte-at-requires : tie.Need-byte-at-requires
-byte-at-requires c κs = search needs
+byte-at-requires c κs = tt
 
 with-status-requires : tie.Need-with-status-requires
-with-status-requires c κs = search needs
+with-status-requires c κs = tt
 
 put-byte-requires : tie.Need-put-byte-requires
-put-byte-requires c κs = search needs
+put-byte-requires c κs = tt
 
 same-length : tie.Need-same-length
 same-length c = search needs

@@ -4,15 +4,14 @@ use mathlib.Core.Bool.{true, false}
 use borrow.Author.Tests.{not-true, not-false}
 use Rattle.rules.specs.Records.{occupied, blockAt}
 use Rattle.rules.specs.BlockTable.{get}
-use borrow.Author.Needs.{needs}
 use Rattle.block_reading.proofs.get.Statement.{statement}
 use Rattle.block_reading.proofs.get.Tie as tie
 
 is-occupied-requires : tie.Need-is-occupied-requires
-is-occupied-requires c κs = search needs
+is-occupied-requires c κs = tt
 
 empty-requires : tie.Need-empty-requires
-empty-requires c κs = search needs
+empty-requires c κs = tt
 
 returns : tie.Need-returns
 unfolding get
@@ -21,19 +20,19 @@ returns c =
     rw e
 
 hash-at-requires : tie.Need-hash-at-requires
-hash-at-requires c κs = search needs
+hash-at-requires c κs = tt
 
 word-at-requires : tie.Need-word-at-requires
-word-at-requires c κs = search needs
+word-at-requires c κs = tt
 
 word-at-requires-2 : tie.Need-word-at-requires-2
-word-at-requires-2 c κs = search needs
+word-at-requires-2 c κs = tt
 
 byte-at-requires : tie.Need-byte-at-requires
-byte-at-requires c κs = search needs
+byte-at-requires c κs = tt
 
 byte-at-requires-2 : tie.Need-byte-at-requires-2
-byte-at-requires-2 c κs = search needs
+byte-at-requires-2 c κs = tt
 
 returns-2 : tie.Need-returns-2
 unfolding get blockAt

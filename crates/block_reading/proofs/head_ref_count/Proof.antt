@@ -4,12 +4,11 @@ use mathlib.Core.Bool.{true, false}
 use borrow.Author.Tests.{not-true, not-false}
 use Rattle.rules.specs.Records.{occupied}
 use Rattle.rules.specs.BlockTable.{headRefCount}
-use borrow.Author.Needs.{needs}
 use Rattle.block_reading.proofs.head_ref_count.Statement.{statement}
 use Rattle.block_reading.proofs.head_ref_count.Tie as tie
 
 is-occupied-requires : tie.Need-is-occupied-requires
-is-occupied-requires c κs = search needs
+is-occupied-requires c κs = tt
 
 returns : tie.Need-returns
 unfolding headRefCount
@@ -18,7 +17,7 @@ returns c =
     rw e
 
 byte-at-requires : tie.Need-byte-at-requires
-byte-at-requires c κs = search needs
+byte-at-requires c κs = tt
 
 returns-2 : tie.Need-returns-2
 unfolding headRefCount

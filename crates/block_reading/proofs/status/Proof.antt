@@ -4,12 +4,11 @@ use mathlib.Core.Bool.{true, false}
 use borrow.Author.Tests.{not-true, not-false}
 use Rattle.rules.specs.Records.{occupied}
 use Rattle.rules.specs.BlockTable.{statusAt}
-use borrow.Author.Needs.{needs}
 use Rattle.block_reading.proofs.status.Statement.{statement}
 use Rattle.block_reading.proofs.status.Tie as tie
 
 is-occupied-requires : tie.Need-is-occupied-requires
-is-occupied-requires c κs = search needs
+is-occupied-requires c κs = tt
 
 returns : tie.Need-returns
 unfolding statusAt
@@ -18,10 +17,10 @@ returns c =
     rw e
 
 byte-at-requires : tie.Need-byte-at-requires
-byte-at-requires c κs = search needs
+byte-at-requires c κs = tt
 
 status-bits-requires : tie.Need-status-bits-requires
-status-bits-requires c κs = search needs
+status-bits-requires c κs = tt
 
 returns-2 : tie.Need-returns-2
 unfolding statusAt

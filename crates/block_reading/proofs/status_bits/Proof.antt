@@ -1,10 +1,9 @@
 -- 3 reads as 0.
 use native.Mathlib.Omega.{arith}
-use mathlib.Core.Path.{_≡_, refl, sym}
-use mathlib.Core.Bool.{true, false}
-use Prim.Native.Nat.{ℕ, _/_, _%_}
+use mathlib.Core.Path.{_≡_, refl}
+use Prim.Native.Nat.{_/_, _%_}
 use lib.Dec.{eqb}
-use borrow.Author.Tests.{eqb-true, eqb-false, ne-eqb, eq-eqb}
+use borrow.Author.Tests.{eqb-false}
 use Rattle.rules.specs.Records.{statusOf}
 use Rattle.rules.proofs.Splits.{split}
 use Rattle.block_reading.proofs.status_bits.Statement.{statement}

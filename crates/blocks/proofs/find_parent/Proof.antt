@@ -1,5 +1,4 @@
 -- One lower in sequence, unless that is below 0.
-use mathlib.Core.Path.{_≡_, sym, _∙_}
 use borrow.Author.Tests.{eq-eqb, ne-eqb}
 use Rattle.rules.specs.BlockTable.{findParent}
 use borrow.Author.Needs.{needs}
@@ -14,7 +13,7 @@ sub-t7 : tie.Need-sub-t7
 sub-t7 c = search needs
 
 find-requires : tie.Need-find-requires
-find-requires c κs = search needs
+find-requires c κs = tt
 
 returns-2 : tie.Need-returns-2
 unfolding findParent

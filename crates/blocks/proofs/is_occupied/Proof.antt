@@ -1,12 +1,10 @@
 -- The sequence is not NONE_REF.
-use mathlib.Core.Path.{_≡_}
 use Rattle.rules.specs.Records.{occupied}
-use borrow.Author.Needs.{needs}
 use Rattle.blocks.proofs.is_occupied.Statement.{statement}
 use Rattle.blocks.proofs.is_occupied.Tie as tie
 
 word-at-requires : tie.Need-word-at-requires
-word-at-requires c κs = search needs
+word-at-requires c κs = tt
 
 returns : tie.Need-returns
 unfolding occupied

@@ -1,12 +1,10 @@
 -- Bit 0.
-use mathlib.Core.Path.{_≡_}
 use Rattle.rules.specs.Records.{active}
-use borrow.Author.Needs.{needs}
 use Rattle.blocks.proofs.is_on_active_chain.Statement.{statement}
 use Rattle.blocks.proofs.is_on_active_chain.Tie as tie
 
 byte-at-requires : tie.Need-byte-at-requires
-byte-at-requires c κs = search needs
+byte-at-requires c κs = tt
 
 returns : tie.Need-returns
 unfolding active

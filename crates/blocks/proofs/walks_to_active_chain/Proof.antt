@@ -1,10 +1,8 @@
 -- What is left to try from the present block decides.
-use borrow.Author.Needs.{needs}
 use native.Mathlib.Omega.{arith}
 use Prim.Native.Nat.{ℕ, suc, _≤_, _-_, _+_}
 use native.Mathlib.Nat.{sub-zero}
-use mathlib.Core.Path.{_≡_, sym, _∙_, ap}
-use mathlib.Core.Bool.{true, false}
+use mathlib.Core.Path.{_≡_, sym, _∙_}
 use borrow.Author.Tests.{not-true, not-false}
 use Rattle.rules.specs.BlockTable.{walksToActive, walksToActiveChain}
 use Rattle.rules.proofs.Walks.{active-spent, active-empty, active-here, active-end, active-up}
@@ -18,13 +16,13 @@ abbrev μ-loop : tie.MeasureT-loop
 μ-loop parents sequences flags n current₀ tries₀ current tries = n - tries
 
 slots-requires : tie.Need-slots-requires Inv-loop μ-loop
-slots-requires c κs = search needs
+slots-requires c κs = tt
 
 loop-holds : tie.Need-loop-holds Inv-loop μ-loop
 loop-holds c = (omega arith, rw sub-zero)
 
 is-occupied-requires : tie.Need-is-occupied-requires Inv-loop μ-loop
-is-occupied-requires c κs = search needs
+is-occupied-requires c κs = tt
 
 returns : tie.Need-returns Inv-loop μ-loop
 unfolding walksToActiveChain
@@ -33,7 +31,7 @@ returns c =
     (sym (c .before .is-occupied .ensures) ∙ not-true (c .before .is-occupied .result) (c .if1 .taken))))
 
 is-on-active-chain-requires : tie.Need-is-on-active-chain-requires Inv-loop μ-loop
-is-on-active-chain-requires c κs = search needs
+is-on-active-chain-requires c κs = tt
 
 returns-2 : tie.Need-returns-2 Inv-loop μ-loop
 unfolding walksToActiveChain
@@ -42,7 +40,7 @@ returns-2 c =
     (sym (c .before .before .before .is-occupied .ensures) ∙ not-false (c .before .before .before .is-occupied .result) (c .before .before .if1 .left)) (sym (c .before .is-on-active-chain .ensures) ∙ c .if2 .taken)))
 
 word-at-requires : tie.Need-word-at-requires Inv-loop μ-loop
-word-at-requires c κs = search needs
+word-at-requires c κs = tt
 
 returns-3 : tie.Need-returns-3 Inv-loop μ-loop
 unfolding walksToActiveChain

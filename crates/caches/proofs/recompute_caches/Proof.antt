@@ -1,7 +1,5 @@
 -- By where the walk ends.
-use mathlib.Core.Path.{_≡_, sym, ap, _∙_}
-use Rattle.rules.specs.Records.{tipAt}
-use Rattle.rules.specs.Anchor.{connection, tail, locateAnchor}
+use mathlib.Core.Path.{sym, ap, _∙_}
 use Rattle.rules.specs.Answers.{anchorLocated}
 use Rattle.rules.specs.Caches.{keep, recompute}
 use borrow.Author.Needs.{needs}
@@ -9,22 +7,22 @@ use Rattle.caches.proofs.recompute_caches.Statement.{statement}
 use Rattle.caches.proofs.recompute_caches.Tie as tie
 
 word-at-requires : tie.Need-word-at-requires
-word-at-requires c κs = search needs
+word-at-requires c κs = tt
 
 locate-anchor-requires : tie.Need-locate-anchor-requires
-locate-anchor-requires c κs = search needs
+locate-anchor-requires c κs = tt
 
 enum-known-at : tie.Need-enum-known-at
 enum-known-at c = search needs
 
 keep-connection-requires : tie.Need-keep-connection-requires
-keep-connection-requires c κs = search needs
+keep-connection-requires c κs = tt
 
 enum-known-at-2 : tie.Need-enum-known-at-2
 enum-known-at-2 c = search needs
 
 keep-tail-requires : tie.Need-keep-tail-requires
-keep-tail-requires c κs = search needs
+keep-tail-requires c κs = tt
 
 same-length : tie.Need-same-length
 same-length c = search needs

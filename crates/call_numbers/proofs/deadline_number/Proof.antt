@@ -1,15 +1,13 @@
-use mathlib.Core.Path.{_≡_, refl, sym, ap, _∙_}
+use mathlib.Core.Path.{refl}
 use borrow.Author.Needs.{needs}
 use Rattle.call_numbers.proofs.deadline_number.Statement.{statement}
 use Rattle.call_numbers.proofs.deadline_number.Tie as tie
-use Rattle.call_numbers.proofs.deadline_number.Reads as reads
-use Rattle.call_numbers.proofs.deadline_number.Lts as lts
 
 enum-known-deadline : tie.Need-enum-known-deadline
 enum-known-deadline c = search needs
 
 put-time-requires : tie.Need-put-time-requires
-put-time-requires c κs = search needs
+put-time-requires c κs = tt
 
 enum-told : tie.Need-enum-told
 enum-told c = search needs
@@ -18,7 +16,7 @@ enum-known-deadline-2 : tie.Need-enum-known-deadline-2
 enum-known-deadline-2 c = search needs
 
 refusal-requires : tie.Need-refusal-requires
-refusal-requires c κs = search needs
+refusal-requires c κs = tt
 
 same-length : tie.Need-same-length
 same-length c = search needs

@@ -1,11 +1,9 @@
-use mathlib.Core.Path.{_≡_, sym, ap, _∙_}
+use mathlib.Core.Path.{sym, ap, _∙_}
 use Rattle.rules.specs.Answers.{outcomeSaid}
 use Rattle.call_numbers.specs.Numbers.{answerNumber}
 use borrow.Author.Needs.{needs}
 use Rattle.call_numbers.proofs.outcome_number.Statement.{statement}
 use Rattle.call_numbers.proofs.outcome_number.Tie as tie
-use Rattle.call_numbers.proofs.outcome_number.Reads as reads
-use Rattle.call_numbers.proofs.outcome_number.Lts as lts
 
 enum-told : tie.Need-enum-told
 enum-told c = search needs
@@ -14,7 +12,7 @@ enum-known-outcome : tie.Need-enum-known-outcome
 enum-known-outcome c = search needs
 
 refusal-requires : tie.Need-refusal-requires
-refusal-requires c κs = search needs
+refusal-requires c κs = tt
 
 returns : tie.Need-returns
 returns c = search needs

@@ -2,8 +2,6 @@ use Rattle.call_numbers.specs.Numbers.{spanFrom}
 use borrow.Author.Tests.{eq-eqb, ne-eqb}
 use Rattle.call_numbers.proofs.span_from.Statement.{statement}
 use Rattle.call_numbers.proofs.span_from.Tie as tie
-use Rattle.call_numbers.proofs.span_from.Reads as reads
-use Rattle.call_numbers.proofs.span_from.Lts as lts
 
 returns : tie.Need-returns
 unfolding spanFrom

@@ -1,18 +1,16 @@
-use mathlib.Core.Path.{_≡_, refl, sym, ap, _∙_}
+use mathlib.Core.Path.{refl}
 use borrow.Author.Needs.{needs}
 use Rattle.call_numbers.proofs.timed_number.Statement.{statement}
 use Rattle.call_numbers.proofs.timed_number.Tie as tie
-use Rattle.call_numbers.proofs.timed_number.Reads as reads
-use Rattle.call_numbers.proofs.timed_number.Lts as lts
 
 enum-known-timed : tie.Need-enum-known-timed
 enum-known-timed c = search needs
 
 put-word-requires : tie.Need-put-word-requires
-put-word-requires c κs = search needs
+put-word-requires c κs = tt
 
 put-hash-requires : tie.Need-put-hash-requires
-put-hash-requires c κs = search needs
+put-hash-requires c κs = tt
 
 cast-result : tie.Need-cast-result
 cast-result c = search needs
@@ -27,7 +25,7 @@ enum-known-timed-2 : tie.Need-enum-known-timed-2
 enum-known-timed-2 c = search needs
 
 refusal-requires : tie.Need-refusal-requires
-refusal-requires c κs = search needs
+refusal-requires c κs = tt
 
 same-length : tie.Need-same-length
 same-length c = search needs

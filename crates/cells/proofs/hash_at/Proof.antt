@@ -1,11 +1,11 @@
 -- The bytes before `k` are read.
-use borrow.Author.Needs.{needs}
 use native.Mathlib.Omega.{arith}
 use Prim.Native.Nat.{ℕ, _≤_, _<_, _-_, _+_, _*_}
-use mathlib.Core.Path.{_≡_, refl, sym, _∙_}
-use mathlib.Core.Logic.{_≢_}
-use lib.ListN.{length, getD, length-set}
-use lib.Seq.{getD-set-same, getD-set-other}
+use mathlib.Core.Path.{_≡_, refl, ap, _∙_}
+use mathlib.Core.List.{List}
+use lib.ListN.{length, getD, length-set, length-take}
+use lib.Seq.{getD-set-same, getD-set-other, take-all}
+use Rattle.rules.specs.Hashes.{hashAt}
 use Rattle.rules.proofs.Splits.{same?}
 use Rattle.rules.proofs.Hashes.{hash-is}
 use Rattle.cells.proofs.hash_at.Statement.{statement}
@@ -20,14 +20,28 @@ abbrev μ-loop : tie.MeasureT-loop
 mul-from : tie.Need-mul-from Inv-loop μ-loop
 mul-from c = omega arith
 
+add-if1 : tie.Need-add-if1 Inv-loop μ-loop
+add-if1 c = omega arith
+
+slice-aggregate-padded-hash : tie.Need-slice-aggregate-padded-hash Inv-loop μ-loop
+slice-aggregate-padded-hash c = let b = c .before .before .before .args .bytes .now in omega (arith, length-take (length b) b)
+
+padded-hash-requires : tie.Need-padded-hash-requires Inv-loop μ-loop
+padded-hash-requires c κs = tt
+
+returns : tie.Need-returns Inv-loop μ-loop
+returns c =
+    let a = c .before .before .before .before .args in
+    c .padded-hash .ensures ∙ ap (λ (l : List ℕ). hashAt l (a .at)) (take-all (length (a .bytes .now)) (a .bytes .now) (omega arith))
+
 loop-holds : tie.Need-loop-holds Inv-loop μ-loop
 loop-holds c = (refl, (omega arith, (refl, λ j l. absurd (omega arith))))
 
-add-byte-from : tie.Need-add-byte-from Inv-loop μ-loop
-add-byte-from c = omega arith
+add-hash : tie.Need-add-hash Inv-loop μ-loop
+add-hash c = omega arith
 
-byte-from-requires : tie.Need-byte-from-requires Inv-loop μ-loop
-byte-from-requires c κs = search needs
+shared-slice-read-hash : tie.Need-shared-slice-read-hash Inv-loop μ-loop
+shared-slice-read-hash c = omega arith
 
 array-write-hash : tie.Need-array-write-hash Inv-loop μ-loop
 array-write-hash c = omega arith
@@ -41,23 +55,25 @@ loop-less c = omega arith
 loop-again : tie.Need-loop-again Inv-loop μ-loop
 loop-again c =
     let l = c .before .before .loop in
+    let b = c .before .before .before .before .before .args .bytes .now in
+    let v = getD b (c .before .before .before .before .before .args .at * 32 + l .k) 0 in
     let h : length (l .hash) ≡ 32 = l .inv .1 .1 .0 in (
       refl,
       (
         omega arith,
         (
-          length-set (l .hash) (l .k) (c .byte-from .result) ∙ h,
+          length-set (l .hash) (l .k) v ∙ h,
           λ j lt. same? j (l .k)
-              (λ q. rw q (getD-set-same (l .hash) (l .k) (c .byte-from .result) 0 (omega arith) ∙ c .byte-from .ensures))
-              (λ ne. getD-set-other (l .hash) (l .k) j (c .byte-from .result) 0 ne ∙ l .inv .1 .1 .1 j (omega arith)),
+              (λ q. rw q (getD-set-same (l .hash) (l .k) v 0 (omega arith)))
+              (λ ne. getD-set-other (l .hash) (l .k) j v 0 ne ∙ l .inv .1 .1 .1 j (omega arith)),
         ),
       ),
     )
 
-returns : tie.Need-returns Inv-loop μ-loop
-returns c =
+returns-2 : tie.Need-returns-2 Inv-loop μ-loop
+returns-2 c =
     let l = c .before .loop in
-    hash-is (c .before .before .before .args .bytes .now) (l .hash) (c .before .before .before .args .at) (l .inv .1 .1 .0) (λ k lt. l .inv .1 .1 .1 k (omega arith))
+    hash-is (c .before .before .before .before .args .bytes .now) (l .hash) (c .before .before .before .before .args .at) (l .inv .1 .1 .0) (λ k lt. l .inv .1 .1 .1 k (omega arith))
 
 pub hash-at-spec : {M : Type 1} → statement M
 hash-at-spec =
@@ -66,11 +82,15 @@ hash-at-spec =
     Inv-loop
     μ-loop
     mul-from
+    add-if1
+    slice-aggregate-padded-hash
+    padded-hash-requires
+    returns
     loop-holds
-    add-byte-from
-    byte-from-requires
+    add-hash
+    shared-slice-read-hash
     array-write-hash
     add-k
     loop-less
     loop-again
-    returns)
+    returns-2)

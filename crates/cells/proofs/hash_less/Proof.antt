@@ -1,9 +1,9 @@
 -- The bytes before `k` agree.
 use borrow.Author.Needs.{needs}
 use native.Mathlib.Omega.{arith}
-use Prim.Native.Nat.{ℕ, _≤_, _<_, _-_, _+_}
+use Prim.Native.Nat.{_≤_, _-_}
 use mathlib.Core.Path.{_≡_, refl, sym, _∙_}
-use lib.ListN.{length, getD, drop}
+use lib.ListN.{length, drop}
 use Rattle.rules.specs.Hashes.{hashLess}
 use Rattle.rules.proofs.Hashes.{less-below, less-above, less-goes, less-end}
 use Rattle.cells.proofs.hash_less.Statement.{statement}

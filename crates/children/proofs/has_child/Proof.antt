@@ -1,5 +1,4 @@
 -- None of the slots before `i` is a child.
-use borrow.Author.Needs.{needs}
 use native.Mathlib.Omega.{arith}
 use Prim.Native.Nat.{_≤_, _-_}
 use mathlib.Core.Path.{_≡_, sym, _∙_}
@@ -20,13 +19,13 @@ abbrev μ-loop : tie.MeasureT-loop
 μ-loop parents sequences slot n i₀ i = n - i
 
 slots-requires : tie.Need-slots-requires Inv-loop μ-loop
-slots-requires c κs = search needs
+slots-requires c κs = tt
 
 loop-holds : tie.Need-loop-holds Inv-loop μ-loop
 loop-holds c = (omega arith, count-none _)
 
 is-child-requires : tie.Need-is-child-requires Inv-loop μ-loop
-is-child-requires c κs = search needs
+is-child-requires c κs = tt
 
 returns : tie.Need-returns Inv-loop μ-loop
 unfolding childless children

@@ -4,12 +4,11 @@ use mathlib.Core.Bool.{true, false}
 use borrow.Author.Tests.{not-true, not-false}
 use Rattle.rules.specs.Records.{occupied}
 use Rattle.rules.specs.BlockTable.{childOf}
-use borrow.Author.Needs.{needs}
 use Rattle.children.proofs.is_child.Statement.{statement}
 use Rattle.children.proofs.is_child.Tie as tie
 
 is-occupied-requires : tie.Need-is-occupied-requires
-is-occupied-requires c κs = search needs
+is-occupied-requires c κs = tt
 
 returns : tie.Need-returns
 unfolding childOf
@@ -18,7 +17,7 @@ returns c =
     rw e
 
 word-at-requires : tie.Need-word-at-requires
-word-at-requires c κs = search needs
+word-at-requires c κs = tt
 
 returns-2 : tie.Need-returns-2
 unfolding childOf

@@ -3,12 +3,11 @@ use mathlib.Core.Path.{ap, _∙_}
 use mathlib.Core.Bool.{not}
 use Rattle.rules.specs.BlockTable.{childless}
 use Rattle.rules.proofs.Splits.{split}
-use borrow.Author.Needs.{needs}
 use Rattle.children.proofs.is_childless.Statement.{statement}
 use Rattle.children.proofs.is_childless.Tie as tie
 
 has-child-requires : tie.Need-has-child-requires
-has-child-requires c κs = search needs
+has-child-requires c κs = tt
 
 returns : tie.Need-returns
 returns c =

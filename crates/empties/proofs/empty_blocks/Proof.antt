@@ -1,22 +1,21 @@
 -- Five fills.
-use borrow.Author.Needs.{needs}
 use Rattle.empties.proofs.empty_blocks.Statement.{statement}
 use Rattle.empties.proofs.empty_blocks.Tie as tie
 
 fill-bytes-requires : tie.Need-fill-bytes-requires
-fill-bytes-requires c κs = search needs
+fill-bytes-requires c κs = tt
 
 fill-words-requires : tie.Need-fill-words-requires
-fill-words-requires c κs = search needs
+fill-words-requires c κs = tt
 
 fill-words-requires-2 : tie.Need-fill-words-requires-2
-fill-words-requires-2 c κs = search needs
+fill-words-requires-2 c κs = tt
 
 fill-bytes-requires-2 : tie.Need-fill-bytes-requires-2
-fill-bytes-requires-2 c κs = search needs
+fill-bytes-requires-2 c κs = tt
 
 fill-bytes-requires-3 : tie.Need-fill-bytes-requires-3
-fill-bytes-requires-3 c κs = search needs
+fill-bytes-requires-3 c κs = tt
 
 same-length : tie.Need-same-length
 same-length c = c .before .before .before .before .before .before .before .before .before .before .before .before .before .before .before .before .before .before .fill-bytes .kept .0

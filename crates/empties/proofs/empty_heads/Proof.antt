@@ -1,25 +1,24 @@
 -- Six fills.
-use borrow.Author.Needs.{needs}
 use Rattle.empties.proofs.empty_heads.Statement.{statement}
 use Rattle.empties.proofs.empty_heads.Tie as tie
 
 fill-words-requires : tie.Need-fill-words-requires
-fill-words-requires c κs = search needs
+fill-words-requires c κs = tt
 
 fill-words-requires-2 : tie.Need-fill-words-requires-2
-fill-words-requires-2 c κs = search needs
+fill-words-requires-2 c κs = tt
 
 fill-bytes-requires : tie.Need-fill-bytes-requires
-fill-bytes-requires c κs = search needs
+fill-bytes-requires c κs = tt
 
 fill-times-requires : tie.Need-fill-times-requires
-fill-times-requires c κs = search needs
+fill-times-requires c κs = tt
 
 fill-times-requires-2 : tie.Need-fill-times-requires-2
-fill-times-requires-2 c κs = search needs
+fill-times-requires-2 c κs = tt
 
 fill-bytes-requires-2 : tie.Need-fill-bytes-requires-2
-fill-bytes-requires-2 c κs = search needs
+fill-bytes-requires-2 c κs = tt
 
 same-length : tie.Need-same-length
 same-length c = c .before .before .before .before .before .before .before .before .before .before .before .before .before .before .before .before .before .before .before .before .before .before .fill-words .kept .0

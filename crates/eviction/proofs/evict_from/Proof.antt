@@ -1,5 +1,4 @@
 -- What is left to visit from the present block.
-use borrow.Author.Needs.{needs}
 use native.Mathlib.Omega.{arith}
 use Prim.Native.Nat.{ℕ, suc, _≤_, _-_, _+_}
 use native.Mathlib.Nat.{sub-zero}
@@ -20,13 +19,13 @@ abbrev μ-loop : tie.MeasureT-loop
 μ-loop hashes₀ parents₀ sequences₀ counts₀ flags₀ n current₀ visits₀ hashes parents sequences counts flags current visits = n - visits
 
 slots-requires : tie.Need-slots-requires Inv-loop μ-loop
-slots-requires c κs = search needs
+slots-requires c κs = tt
 
 loop-holds : tie.Need-loop-holds Inv-loop μ-loop
 loop-holds c = (omega arith, ((refl, (refl, (refl, (refl, refl)))), rw sub-zero))
 
 visit-requires : tie.Need-visit-requires Inv-loop μ-loop
-visit-requires c κs = search needs
+visit-requires c κs = tt
 
 enum-told : tie.Need-enum-told Inv-loop μ-loop
 enum-told c = omega arith

@@ -1,5 +1,5 @@
 -- Without a victim nothing changes.
-use mathlib.Core.Path.{_≡_, refl, sym, ap, _∙_}
+use mathlib.Core.Path.{refl, sym, ap, _∙_}
 use Rattle.rules.specs.Answers.{headFound}
 use Rattle.rules.specs.Eviction.{evictOne}
 use borrow.Author.Needs.{needs}
@@ -7,7 +7,7 @@ use Rattle.eviction.proofs.evict_one.Statement.{statement}
 use Rattle.eviction.proofs.evict_one.Tie as tie
 
 select-eviction-victim-requires : tie.Need-select-eviction-victim-requires
-select-eviction-victim-requires c κs = search needs
+select-eviction-victim-requires c κs = tt
 
 enum-told : tie.Need-enum-told
 enum-told c = search needs
@@ -16,16 +16,16 @@ enum-known-head : tie.Need-enum-known-head
 enum-known-head c = search needs
 
 evict-requires : tie.Need-evict-requires
-evict-requires c κs = search needs
+evict-requires c κs = tt
 
 same-length : tie.Need-same-length
-same-length c = search needs
+same-length c = refl
 
 same-length-2 : tie.Need-same-length-2
-same-length-2 c = search needs
+same-length-2 c = refl
 
 same-length-3 : tie.Need-same-length-3
-same-length-3 c = search needs
+same-length-3 c = refl
 
 returns : tie.Need-returns
 unfolding evictOne

@@ -1,33 +1,41 @@
--- The best of the heads before `k`.
-use borrow.Author.Needs.{needs}
+-- `best` is the head to evict among those before `k`, if there is one, and `lowest` its tip's sequence.
 use native.Mathlib.Omega.{arith}
-use Prim.Native.Nat.{ℕ, _≤_, _-_, _+_}
-use mathlib.Core.Path.{_≡_, sym, _∙_}
-use mathlib.Core.Bool.{Bool, true, false}
-use Rattle.rules.specs.Common.{best}
-use Rattle.rules.specs.Records.{tipAt}
-use Rattle.rules.specs.Answers.{headFound}
-use Rattle.rules.specs.Eviction.{blockBefore, mayGo, victim}
-use Rattle.rules.proofs.Splits.{split}
-use Rattle.rules.proofs.Best.{best-none, best-passes, best-fails}
+use Prim.Native.Nat.{_≤_, _-_}
+use mathlib.Core.Path.{_≡_, refl, sym, _∙_}
+use mathlib.Core.Bool.{true, false}
+use mathlib.Core.Logic.{⊎-elim}
+use mathlib.Core.Option.{none, some}
+use Rattle.rules.specs.Common.{if_then_else_}
+use Rattle.rules.specs.Records.{sequenceAt, tipAt}
+use Rattle.rules.proofs.Splits.{true-not-false}
+use Rattle.eviction.proofs.Choice.{choice, choice-none, choice-behind, choice-kept, choice-taken, choice-victim}
 use Rattle.eviction.proofs.select_eviction_victim.Statement.{statement}
 use Rattle.eviction.proofs.select_eviction_victim.Tie as tie
 
 abbrev Inv-loop : tie.InvT-loop
-Inv-loop hashes sequences tips active m best₀ k₀ best k =
-    (k ≤ m) × (headFound best ≡ Rattle.rules.specs.Common.best (mayGo sequences tips (active .0)) (λ (i j : ℕ). blockBefore hashes sequences (tipAt tips i) (tipAt tips j)) k)
+Inv-loop hashes sequences tips active m any₀ best₀ lowest₀ k₀ any best lowest k =
+    (k ≤ m) × ((choice hashes sequences tips (active .0) k ≡ (if any then some best else none)) × (any ≡ true → lowest ≡ sequenceAt sequences (tipAt tips best)))
 
 abbrev μ-loop : tie.MeasureT-loop
-μ-loop hashes sequences tips active m best₀ k₀ best k = m - k
+μ-loop hashes sequences tips active m any₀ best₀ lowest₀ k₀ any best lowest k = m - k
 
 slots-requires : tie.Need-slots-requires Inv-loop μ-loop
-slots-requires c κs = search needs
+slots-requires c κs = tt
 
 loop-holds : tie.Need-loop-holds Inv-loop μ-loop
-loop-holds c = (omega arith, sym (best-none _ _))
+loop-holds c = (omega arith, (choice-none _ _ _ _, λ e. true-not-false {b = false} e refl))
 
-consider-requires : tie.Need-consider-requires Inv-loop μ-loop
-consider-requires c κs = search needs
+word-at-requires : tie.Need-word-at-requires Inv-loop μ-loop
+word-at-requires c κs = tt
+
+word-at-requires-2 : tie.Need-word-at-requires-2 Inv-loop μ-loop
+word-at-requires-2 c κs = tt
+
+goes-first-requires : tie.Need-goes-first-requires Inv-loop μ-loop
+goes-first-requires c κs = tt
+
+may-go-requires : tie.Need-may-go-requires Inv-loop μ-loop
+may-go-requires c κs = tt
 
 add-k : tie.Need-add-k Inv-loop μ-loop
 add-k c = omega arith
@@ -37,21 +45,32 @@ loop-less c = omega arith
 
 loop-again : tie.Need-loop-again Inv-loop μ-loop
 loop-again c =
-    let l = c .before .before .loop in
-    let a = c .before .before .before .before .before .before .before .args in
-    let test : ℕ → Bool = mayGo (a .sequences .now) (a .tips .now) (a .active .0) in
-    let before : ℕ → ℕ → Bool = λ i j. blockBefore (a .hashes .now) (a .sequences .now) (tipAt (a .tips .now) i) (tipAt (a .tips .now) j) in (
+    let l = c .before .before .before .before .before .loop in
+    let tip = c .before .before .before .word-at .result in
+    let there = c .before .before .before .word-at .ensures in
+    let sequence = c .before .before .word-at2 .result in
+    let read = c .before .before .word-at2 .ensures in
+    let first = c .before .goes-first .ensures in (
       omega arith,
-      split (test (l .k))
-          (λ e. c .consider .ensures ∙ rw (e, best-passes test before (l .k) e, l .inv .1))
-          (λ e. c .consider .ensures ∙ rw (e, best-fails test before (l .k) e, l .inv .1)),
+      ⊎-elim
+          (λ w. rw (w .3, w .4, w .5) (choice-taken _ _ _ _ (l .any) (l .best) (l .lowest) (l .k) tip sequence (l .inv .1 .0) (l .inv .1 .1) there read (sym first ∙ w .0 .taken) (sym (w .1 .ensures) ∙ w .2 .taken), λ e. read ∙ rw there))
+          (⊎-elim
+          (λ w. rw (w .3, w .4, w .5) (choice-kept _ _ _ _ (l .any) (l .best) (l .lowest) (l .k) tip sequence (l .inv .1 .0) (l .inv .1 .1) there read (sym (w .1 .ensures) ∙ w .2 .left), l .inv .1 .1))
+          (λ w. rw (w .1, w .2, w .3) (choice-behind _ _ _ _ (l .any) (l .best) (l .lowest) (l .k) tip sequence (l .inv .1 .0) (l .inv .1 .1) there read (sym first ∙ w .0 .left), l .inv .1 .1)))
+          (c .if1 .came),
     )
 
 returns : tie.Need-returns Inv-loop μ-loop
-unfolding victim
 returns c =
-    let e : c .before .loop .k ≡ c .before .before .slots .result = omega arith in
-    rw (← c .before .before .slots .ensures, ← e) (c .before .loop .inv .1)
+    let l = c .before .before .loop in
+    let e : some (l .best) ≡ (if l .any then some (l .best) else none) = rw (c .if3 .taken) in
+    e ∙ sym (l .inv .1 .0) ∙ choice-victim _ _ _ _ (l .k) (omega (arith, c .before .before .before .slots .ensures))
+
+returns-2 : tie.Need-returns-2 Inv-loop μ-loop
+returns-2 c =
+    let l = c .before .before .loop in
+    let e : none ≡ (if l .any then some (l .best) else none) = rw (c .if3 .left) in
+    e ∙ sym (l .inv .1 .0) ∙ choice-victim _ _ _ _ (l .k) (omega (arith, c .before .before .before .slots .ensures))
 
 pub select-eviction-victim-spec : {M : Type 1} → statement M
 select-eviction-victim-spec =
@@ -61,8 +80,12 @@ select-eviction-victim-spec =
     μ-loop
     slots-requires
     loop-holds
-    consider-requires
+    word-at-requires
+    word-at-requires-2
+    goes-first-requires
+    may-go-requires
     add-k
     loop-less
     loop-again
-    returns)
+    returns
+    returns-2)

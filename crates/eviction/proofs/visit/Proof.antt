@@ -1,5 +1,5 @@
 -- What the count says, and the flag.
-use mathlib.Core.Path.{_≡_, refl, sym, ap, _∙_}
+use mathlib.Core.Path.{refl, sym, ap, _∙_}
 use Rattle.rules.specs.Records.{blocksOf}
 use Rattle.rules.specs.Answers.{countGot}
 use Rattle.eviction.proofs.Walk.{visit-empty, visit-active, visit-shared, visit-frees}
@@ -8,13 +8,13 @@ use Rattle.eviction.proofs.visit.Statement.{statement}
 use Rattle.eviction.proofs.visit.Tie as tie
 
 word-at-requires : tie.Need-word-at-requires
-word-at-requires c κs = search needs
+word-at-requires c κs = tt
 
 is-on-active-chain-requires : tie.Need-is-on-active-chain-requires
-is-on-active-chain-requires c κs = search needs
+is-on-active-chain-requires c κs = tt
 
 adjust-head-ref-count-requires : tie.Need-adjust-head-ref-count-requires
-adjust-head-ref-count-requires c κs = search needs
+adjust-head-ref-count-requires c κs = tt
 
 enum-told : tie.Need-enum-told
 enum-told c = search needs
@@ -23,16 +23,16 @@ enum-known-count : tie.Need-enum-known-count
 enum-known-count c = search needs
 
 same-length : tie.Need-same-length
-same-length c = search needs
+same-length c = refl
 
 same-length-2 : tie.Need-same-length-2
-same-length-2 c = search needs
+same-length-2 c = refl
 
 same-length-3 : tie.Need-same-length-3
-same-length-3 c = search needs
+same-length-3 c = c .before .before .before .before .before .before .adjust-head-ref-count .kept .1 .0
 
 same-length-4 : tie.Need-same-length-4
-same-length-4 c = search needs
+same-length-4 c = refl
 
 returns : tie.Need-returns
 returns c =
@@ -42,16 +42,16 @@ returns c =
     (v .0, rw (c .before .before .before .before .before .before .adjust-head-ref-count .ensures .1) (v .1))
 
 same-length-5 : tie.Need-same-length-5
-same-length-5 c = search needs
+same-length-5 c = refl
 
 same-length-6 : tie.Need-same-length-6
-same-length-6 c = search needs
+same-length-6 c = refl
 
 same-length-7 : tie.Need-same-length-7
-same-length-7 c = search needs
+same-length-7 c = c .before .before .before .before .before .before .before .adjust-head-ref-count .kept .1 .0
 
 same-length-8 : tie.Need-same-length-8
-same-length-8 c = search needs
+same-length-8 c = refl
 
 returns-2 : tie.Need-returns-2
 returns-2 c =
@@ -61,19 +61,19 @@ returns-2 c =
     (v .0, rw (c .before .before .before .before .before .before .before .adjust-head-ref-count .ensures .1) (v .1))
 
 delete-requires : tie.Need-delete-requires
-delete-requires c κs = search needs
+delete-requires c κs = tt
 
 same-length-9 : tie.Need-same-length-9
-same-length-9 c = search needs
+same-length-9 c = refl
 
 same-length-10 : tie.Need-same-length-10
-same-length-10 c = search needs
+same-length-10 c = refl
 
 same-length-11 : tie.Need-same-length-11
-same-length-11 c = search needs
+same-length-11 c = c .before .before .before .before .adjust-head-ref-count .kept .1 .0
 
 same-length-12 : tie.Need-same-length-12
-same-length-12 c = search needs
+same-length-12 c = refl
 
 returns-3 : tie.Need-returns-3
 returns-3 c =
@@ -83,19 +83,19 @@ returns-3 c =
     (v .0, rw (c .before .before .before .before .adjust-head-ref-count .ensures .1) (v .1))
 
 same-length-13 : tie.Need-same-length-13
-same-length-13 c = search needs
+same-length-13 c = c .before .before .before .before .before .before .before .before .before .before .delete .kept .0
 
 same-length-14 : tie.Need-same-length-14
-same-length-14 c = search needs
+same-length-14 c = c .before .before .before .before .before .before .before .before .before .before .delete .kept .1 .0
 
 same-length-15 : tie.Need-same-length-15
-same-length-15 c = search needs
+same-length-15 c = c .before .before .before .before .before .before .before .before .before .before .delete .kept .1 .1 .0
 
 same-length-16 : tie.Need-same-length-16
-same-length-16 c = search needs
+same-length-16 c = c .before .before .before .before .before .before .before .before .before .before .delete .kept .1 .1 .1 .0 ∙ c .before .before .before .before .before .before .before .before .before .before .before .before .before .before .before .before .before .before .before .before .before .before .before .adjust-head-ref-count .kept .1 .0
 
 same-length-17 : tie.Need-same-length-17
-same-length-17 c = search needs
+same-length-17 c = c .before .before .before .before .before .before .before .before .before .before .delete .kept .1 .1 .1 .1 .0
 
 returns-4 : tie.Need-returns-4
 returns-4 c =

@@ -1,5 +1,4 @@
 -- What is left to free.
-use borrow.Author.Needs.{needs}
 use native.Mathlib.Omega.{arith}
 use Prim.Native.Nat.{_≤_, _-_, _+_}
 use mathlib.Core.Path.{_≡_, refl, sym, ap, _∙_}
@@ -27,7 +26,7 @@ shared-slice-read-t21 : tie.Need-shared-slice-read-t21 Inv-loop μ-loop
 shared-slice-read-t21 c = omega arith
 
 delete-requires : tie.Need-delete-requires Inv-loop μ-loop
-delete-requires c κs = search needs
+delete-requires c κs = tt
 
 add-k : tie.Need-add-k Inv-loop μ-loop
 add-k c = omega arith

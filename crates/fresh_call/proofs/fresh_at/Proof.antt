@@ -5,12 +5,11 @@ use borrow.Author.Tests.{not-true, not-false}
 use Rattle.rules.specs.Records.{tablesOf}
 use Rattle.rules.specs.Calls.{shaped, freshState, fresh}
 use Rattle.empties.proofs.Empties.{blocks-empty, heads-empty}
-use borrow.Author.Needs.{needs}
 use Rattle.fresh_call.proofs.fresh_at.Statement.{statement}
 use Rattle.fresh_call.proofs.fresh_at.Tie as tie
 
 is-shaped-requires : tie.Need-is-shaped-requires
-is-shaped-requires c κs = search needs
+is-shaped-requires c κs = tt
 
 same-length : tie.Need-same-length
 same-length c = refl
@@ -53,10 +52,10 @@ returns c =
     (rw e, (rw e, rw e))
 
 empty-blocks-requires : tie.Need-empty-blocks-requires
-empty-blocks-requires c κs = search needs
+empty-blocks-requires c κs = tt
 
 empty-heads-requires : tie.Need-empty-heads-requires
-empty-heads-requires c κs = search needs
+empty-heads-requires c κs = tt
 
 same-length-12 : tie.Need-same-length-12
 same-length-12 c = c .before .before .before .before .before .before .before .before .before .before .before .before .before .before .before .before .before .before .before .before .before .before .before .before .before .before .before .before .before .empty-blocks .kept .0

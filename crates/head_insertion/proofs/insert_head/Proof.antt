@@ -1,15 +1,14 @@
 -- Room first, then the seat.
-use mathlib.Core.Path.{_≡_, refl, sym, ap, _∙_}
+use mathlib.Core.Path.{_∙_}
 use Rattle.rules.specs.Admission.{insertHead}
-use borrow.Author.Needs.{needs}
 use Rattle.head_insertion.proofs.insert_head.Statement.{statement}
 use Rattle.head_insertion.proofs.insert_head.Tie as tie
 
 make-room-requires : tie.Need-make-room-requires
-make-room-requires c κs = search needs
+make-room-requires c κs = tt
 
 seat-head-requires : tie.Need-seat-head-requires
-seat-head-requires c κs = search needs
+seat-head-requires c κs = tt
 
 same-length : tie.Need-same-length
 same-length c = c .before .before .before .before .before .before .before .before .before .before .before .before .before .before .before .before .before .before .before .before .before .before .before .before .before .before .before .before .before .before .before .before .before .before .before .before .before .before .before .before .before .before .before .before .before .before .make-room .kept .0

@@ -1,5 +1,5 @@
 -- By whether a slot is empty.
-use mathlib.Core.Path.{_≡_, refl, sym, ap, _∙_}
+use mathlib.Core.Path.{refl, sym, ap, _∙_}
 use Rattle.rules.specs.Answers.{headFound}
 use Rattle.rules.specs.Admission.{makeRoom}
 use borrow.Author.Needs.{needs}
@@ -7,13 +7,13 @@ use Rattle.head_insertion.proofs.make_room.Statement.{statement}
 use Rattle.head_insertion.proofs.make_room.Tie as tie
 
 first-empty-requires : tie.Need-first-empty-requires
-first-empty-requires c κs = search needs
+first-empty-requires c κs = tt
 
 enum-told : tie.Need-enum-told
 enum-told c = search needs
 
 evict-one-requires : tie.Need-evict-one-requires
-evict-one-requires c κs = search needs
+evict-one-requires c κs = tt
 
 enum-told-2 : tie.Need-enum-told-2
 enum-told-2 c = search needs
@@ -58,7 +58,7 @@ returns c =
     rw (f, makeRoom) (c .before .before .before .before .before .before .before .before .before .before .before .before .before .before .before .before .before .before .before .before .before .before .evict-one .ensures)
 
 same-length-12 : tie.Need-same-length-12
-same-length-12 c = search needs
+same-length-12 c = refl
 
 returns-2 : tie.Need-returns-2
 unfolding makeRoom

@@ -1,14 +1,13 @@
 -- The head is put, then its caches.
-use mathlib.Core.Path.{_≡_, refl, sym, ap, _∙_}
-use borrow.Author.Needs.{needs}
+use mathlib.Core.Path.{_∙_}
 use Rattle.head_insertion.proofs.seat_at.Statement.{statement}
 use Rattle.head_insertion.proofs.seat_at.Tie as tie
 
 put-head-requires : tie.Need-put-head-requires
-put-head-requires c κs = search needs
+put-head-requires c κs = tt
 
 recompute-caches-requires : tie.Need-recompute-caches-requires
-recompute-caches-requires c κs = search needs
+recompute-caches-requires c κs = tt
 
 same-length : tie.Need-same-length
 same-length c = c .before .before .before .before .before .before .before .before .before .before .before .before .before .before .before .before .before .before .before .before .before .before .before .before .before .before .put-head .kept .0

@@ -1,6 +1,5 @@
 -- By whether a slot is empty.
-use mathlib.Core.Path.{_≡_, refl, sym, ap, _∙_}
-use mathlib.Core.Option.{Option, none, some}
+use mathlib.Core.Path.{refl, sym, ap, _∙_}
 use Rattle.rules.specs.Answers.{headFound}
 use Rattle.rules.specs.Admission.{seatHead}
 use borrow.Author.Needs.{needs}
@@ -8,7 +7,7 @@ use Rattle.head_insertion.proofs.seat_head.Statement.{statement}
 use Rattle.head_insertion.proofs.seat_head.Tie as tie
 
 first-empty-requires : tie.Need-first-empty-requires
-first-empty-requires c κs = search needs
+first-empty-requires c κs = tt
 
 enum-told : tie.Need-enum-told
 enum-told c = search needs
@@ -17,10 +16,10 @@ enum-known-slot : tie.Need-enum-known-slot
 enum-known-slot c = search needs
 
 seat-at-requires : tie.Need-seat-at-requires
-seat-at-requires c κs = search needs
+seat-at-requires c κs = tt
 
 same-length : tie.Need-same-length
-same-length c = search needs
+same-length c = refl
 
 returns : tie.Need-returns
 unfolding seatHead

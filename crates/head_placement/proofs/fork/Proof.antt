@@ -1,16 +1,15 @@
 -- The parent's count, then the head.
-use mathlib.Core.Path.{_≡_, refl, sym, ap, _∙_}
+use mathlib.Core.Path.{_∙_}
 use Rattle.rules.specs.BlockTable.{adjust}
 use Rattle.rules.specs.Admission.{fork}
-use borrow.Author.Needs.{needs}
 use Rattle.head_placement.proofs.fork.Statement.{statement}
 use Rattle.head_placement.proofs.fork.Tie as tie
 
 adjust-head-ref-count-requires : tie.Need-adjust-head-ref-count-requires
-adjust-head-ref-count-requires c κs = search needs
+adjust-head-ref-count-requires c κs = tt
 
 insert-head-requires : tie.Need-insert-head-requires
-insert-head-requires c κs = search needs
+insert-head-requires c κs = tt
 
 same-length : tie.Need-same-length
 same-length c = c .before .before .before .before .before .before .before .before .before .before .before .before .before .before .before .before .before .before .before .before .before .before .insert-head .kept .0

@@ -1,18 +1,16 @@
 -- Tip and arrival time, then the caches.
-use mathlib.Core.Path.{_≡_, refl, sym, ap, _∙_}
 use Rattle.rules.specs.Admission.{moveUp}
-use borrow.Author.Needs.{needs}
 use Rattle.head_placement.proofs.move_up.Statement.{statement}
 use Rattle.head_placement.proofs.move_up.Tie as tie
 
 put-word-requires : tie.Need-put-word-requires
-put-word-requires c κs = search needs
+put-word-requires c κs = tt
 
 put-time-requires : tie.Need-put-time-requires
-put-time-requires c κs = search needs
+put-time-requires c κs = tt
 
 recompute-caches-requires : tie.Need-recompute-caches-requires
-recompute-caches-requires c κs = search needs
+recompute-caches-requires c κs = tt
 
 same-length : tie.Need-same-length
 same-length c = c .before .before .before .before .before .before .before .before .before .before .before .before .before .before .before .before .before .before .before .before .put-word .kept .0

@@ -1,5 +1,5 @@
 -- By whether the parent is a head.
-use mathlib.Core.Path.{_≡_, refl, sym, ap, _∙_}
+use mathlib.Core.Path.{refl, sym, ap, _∙_}
 use Rattle.rules.specs.Answers.{headFound}
 use Rattle.rules.specs.Admission.{placeHead}
 use borrow.Author.Needs.{needs}
@@ -7,34 +7,34 @@ use Rattle.head_placement.proofs.place_above.Statement.{statement}
 use Rattle.head_placement.proofs.place_above.Tie as tie
 
 slot-of-head-requires : tie.Need-slot-of-head-requires
-slot-of-head-requires c κs = search needs
+slot-of-head-requires c κs = tt
 
 enum-known-slot : tie.Need-enum-known-slot
 enum-known-slot c = search needs
 
 move-up-requires : tie.Need-move-up-requires
-move-up-requires c κs = search needs
+move-up-requires c κs = tt
 
 enum-told : tie.Need-enum-told
 enum-told c = search needs
 
 fork-requires : tie.Need-fork-requires
-fork-requires c κs = search needs
+fork-requires c κs = tt
 
 same-length : tie.Need-same-length
-same-length c = search needs
+same-length c = refl
 
 same-length-2 : tie.Need-same-length-2
-same-length-2 c = search needs
+same-length-2 c = refl
 
 same-length-3 : tie.Need-same-length-3
-same-length-3 c = search needs
+same-length-3 c = refl
 
 same-length-4 : tie.Need-same-length-4
-same-length-4 c = search needs
+same-length-4 c = refl
 
 same-length-5 : tie.Need-same-length-5
-same-length-5 c = search needs
+same-length-5 c = refl
 
 same-length-6 : tie.Need-same-length-6
 same-length-6 c = c .before .before .before .before .before .before .before .before .before .before .before .before .move-up .kept .1 .1 .1 .1 .1 .0

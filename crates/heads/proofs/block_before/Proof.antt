@@ -1,19 +1,18 @@
 -- Sequences first, then hashes.
 use native.Mathlib.Omega.{arith}
 use Prim.Native.Nat.{_<_, _≤_}
-use mathlib.Core.Path.{_≡_, refl, sym, _∙_}
+use mathlib.Core.Path.{sym, _∙_}
 use borrow.Author.Tests.{lt-ltb, le-ltb, eq-eqb, ne-eqb}
 use Rattle.rules.specs.Records.{sequenceAt}
 use Rattle.rules.specs.Eviction.{blockBefore}
-use borrow.Author.Needs.{needs}
 use Rattle.heads.proofs.block_before.Statement.{statement}
 use Rattle.heads.proofs.block_before.Tie as tie
 
 word-at-requires : tie.Need-word-at-requires
-word-at-requires c κs = search needs
+word-at-requires c κs = tt
 
 word-at-requires-2 : tie.Need-word-at-requires-2
-word-at-requires-2 c κs = search needs
+word-at-requires-2 c κs = tt
 
 returns : tie.Need-returns
 unfolding blockBefore
@@ -27,30 +26,17 @@ returns-2 c =
     let l : sequenceAt (c .before .before .before .before .before .before .args .sequences .now) (c .before .before .before .before .before .before .args .b .0) ≤ sequenceAt (c .before .before .before .before .before .before .args .sequences .now) (c .before .before .before .before .before .before .args .a .0) = omega (arith, c .before .before .before .word-at .ensures, c .before .before .word-at2 .ensures, c .before .if1 .left) in
     rw (le-ltb _ _ l, ne-eqb _ _ (λ q. c .if2 .taken (c .before .before .before .word-at .ensures ∙ q ∙ sym (c .before .before .word-at2 .ensures))))
 
-hash-at-requires : tie.Need-hash-at-requires
-hash-at-requires c κs = search needs
-
-hash-at-requires-2 : tie.Need-hash-at-requires-2
-hash-at-requires-2 c κs = search needs
-
-hash-less-requires : tie.Need-hash-less-requires
-hash-less-requires c κs = search needs
+hash-before-requires : tie.Need-hash-before-requires
+hash-before-requires c κs = tt
 
 returns-3 : tie.Need-returns-3
 unfolding blockBefore
 returns-3 c =
-    let l : sequenceAt (c .before .before .before .before .before .before .before .before .before .args .sequences .now) (c .before .before .before .before .before .before .before .before .before .args .b .0) ≤ sequenceAt (c .before .before .before .before .before .before .before .before .before .args .sequences .now) (c .before .before .before .before .before .before .before .before .before .args .a .0) = omega (arith, c .before .before .before .before .before .before .word-at .ensures, c .before .before .before .before .before .word-at2 .ensures, c .before .before .before .before .if1 .left) in
-    rw (le-ltb _ _ l, eq-eqb _ _ (sym (c .before .before .before .before .before .before .word-at .ensures) ∙ c .before .before .before .if2 .left ∙ c .before .before .before .before .before .word-at2 .ensures), ← c .before .before .hash-at .ensures, ← c .before .hash-at2 .ensures) (c .hash-less .ensures)
+    let a = c .before .before .before .before .before .before .before .args in
+    let l : sequenceAt (a .sequences .now) (a .b .0) ≤ sequenceAt (a .sequences .now) (a .a .0) = omega (arith, c .before .before .before .before .word-at .ensures, c .before .before .before .word-at2 .ensures, c .before .before .if1 .left) in
+    rw (le-ltb _ _ l, eq-eqb _ _ (sym (c .before .before .before .before .word-at .ensures) ∙ c .before .if2 .left ∙ c .before .before .before .word-at2 .ensures)) (c .hash-before .ensures)
 
 pub block-before-spec : {M : Type 1} → statement M
 block-before-spec =
     tie.close
-    (tie.spec
-    word-at-requires
-    word-at-requires-2
-    returns
-    returns-2
-    hash-at-requires
-    hash-at-requires-2
-    hash-less-requires
-    returns-3)
+    (tie.spec word-at-requires word-at-requires-2 returns returns-2 hash-before-requires returns-3)

@@ -1,7 +1,6 @@
 -- The heads before `k` in use are counted.
-use borrow.Author.Needs.{needs}
 use native.Mathlib.Omega.{arith}
-use Prim.Native.Nat.{ℕ, _≤_, _-_, _+_}
+use Prim.Native.Nat.{_≤_, _-_}
 use mathlib.Core.Path.{_≡_, sym, _∙_}
 use mathlib.Core.Logic.{⊎-elim}
 use Rattle.rules.specs.Common.{countBelow}
@@ -17,13 +16,13 @@ abbrev μ-loop : tie.MeasureT-loop
 μ-loop tips m heads₀ k₀ heads k = m - k
 
 slots-requires : tie.Need-slots-requires Inv-loop μ-loop
-slots-requires c κs = search needs
+slots-requires c κs = tt
 
 loop-holds : tie.Need-loop-holds Inv-loop μ-loop
 loop-holds c = (omega arith, sym (count-none _))
 
 is-used-requires : tie.Need-is-used-requires Inv-loop μ-loop
-is-used-requires c κs = search needs
+is-used-requires c κs = tt
 
 add-heads : tie.Need-add-heads Inv-loop μ-loop
 add-heads c = omega (arith, count-few (used (c .before .before .before .before .before .before .args .tips .now)) (c .before .before .before .loop .k))

@@ -1,62 +1,14 @@
--- All heads before `k` are in use.
-use borrow.Author.Needs.{needs}
-use native.Mathlib.Omega.{arith}
-use Prim.Native.Nat.{ℕ, _≤_, _-_}
-use mathlib.Core.Path.{_≡_, sym, _∙_, ap}
-use mathlib.Core.Bool.{not}
-use mathlib.Core.Option.{Option, none, some}
-use Rattle.rules.specs.Common.{lowest}
-use Rattle.rules.specs.Records.{used}
-use Rattle.rules.specs.Admission.{firstEmpty}
-use Rattle.rules.proofs.Search.{lowest-none, lowest-next, lowest-at}
+-- The first head whose tip is no block.
+use mathlib.Core.Path.{sym, _∙_}
+use Rattle.heads.proofs.Tips.{empty-by-tip}
 use Rattle.heads.proofs.first_empty.Statement.{statement}
 use Rattle.heads.proofs.first_empty.Tie as tie
 
-abbrev Inv-loop : tie.InvT-loop
-Inv-loop tips m k₀ k = (k ≤ m) × (lowest (λ (j : ℕ). not (used tips j)) k ≡ none)
+head-with-requires : tie.Need-head-with-requires
+head-with-requires c κs = tt
 
-abbrev μ-loop : tie.MeasureT-loop
-μ-loop tips m k₀ k = m - k
-
-slots-requires : tie.Need-slots-requires Inv-loop μ-loop
-slots-requires c κs = search needs
-
-loop-holds : tie.Need-loop-holds Inv-loop μ-loop
-loop-holds c = (omega arith, lowest-none _)
-
-is-used-requires : tie.Need-is-used-requires Inv-loop μ-loop
-is-used-requires c κs = search needs
-
-returns : tie.Need-returns Inv-loop μ-loop
-unfolding firstEmpty
-returns c = sym (lowest-at _ (c .before .before .before .loop .k) _ (c .before .before .before .loop .inv .1) (ap not (sym (c .before .is-used .ensures)) ∙ c .if1 .taken) (omega (arith, c .before .before .before .before .slots .ensures)))
-
-add-k : tie.Need-add-k Inv-loop μ-loop
-add-k c = omega arith
-
-loop-less : tie.Need-loop-less Inv-loop μ-loop
-loop-less c = omega arith
-
-loop-again : tie.Need-loop-again Inv-loop μ-loop
-loop-again c = (omega arith, lowest-next _ (c .before .before .before .loop .k) (c .before .before .before .loop .inv .1) (ap not (sym (c .before .is-used .ensures)) ∙ c .if1 .left))
-
-returns-2 : tie.Need-returns-2 Inv-loop μ-loop
-unfolding firstEmpty
-returns-2 c =
-    let e : c .before .loop .k ≡ c .before .before .slots .result = omega arith in
-    sym (rw (← c .before .before .slots .ensures, ← e) (c .before .loop .inv .1))
+returns : tie.Need-returns
+returns c = c .head-with .ensures ∙ sym (empty-by-tip (c .before .before .args .tips .now))
 
 pub first-empty-spec : {M : Type 1} → statement M
-first-empty-spec =
-    tie.close
-    (tie.spec
-    Inv-loop
-    μ-loop
-    slots-requires
-    loop-holds
-    is-used-requires
-    returns
-    add-k
-    loop-less
-    loop-again
-    returns-2)
+first-empty-spec = tie.close (tie.spec head-with-requires returns)

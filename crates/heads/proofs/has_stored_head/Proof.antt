@@ -1,10 +1,9 @@
 -- None of the heads before `k` is stored.
-use borrow.Author.Needs.{needs}
 use native.Mathlib.Omega.{arith}
-use Prim.Native.Nat.{ℕ, _≤_, _-_}
+use Prim.Native.Nat.{_≤_, _-_}
 use mathlib.Core.Path.{_≡_, sym, _∙_}
-use mathlib.Core.Option.{Option, none, some}
-use Rattle.rules.specs.Common.{lowest, isSome}
+use mathlib.Core.Option.{none, some}
+use Rattle.rules.specs.Common.{lowest}
 use Rattle.rules.specs.Records.{stored, slotsOf}
 use Rattle.rules.proofs.Search.{lowest-none, lowest-next, lowest-at}
 use Rattle.heads.proofs.has_stored_head.Statement.{statement}
@@ -17,13 +16,13 @@ abbrev μ-loop : tie.MeasureT-loop
 μ-loop tips connected m k₀ k = m - k
 
 slots-requires : tie.Need-slots-requires Inv-loop μ-loop
-slots-requires c κs = search needs
+slots-requires c κs = tt
 
 loop-holds : tie.Need-loop-holds Inv-loop μ-loop
 loop-holds c = (omega arith, lowest-none _)
 
 is-stored-requires : tie.Need-is-stored-requires Inv-loop μ-loop
-is-stored-requires c κs = search needs
+is-stored-requires c κs = tt
 
 returns : tie.Need-returns Inv-loop μ-loop
 returns c =

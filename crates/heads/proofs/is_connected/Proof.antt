@@ -1,11 +1,10 @@
 -- Bit 0.
 use Rattle.rules.specs.Records.{isConnected}
-use borrow.Author.Needs.{needs}
 use Rattle.heads.proofs.is_connected.Statement.{statement}
 use Rattle.heads.proofs.is_connected.Tie as tie
 
 byte-at-requires : tie.Need-byte-at-requires
-byte-at-requires c κs = search needs
+byte-at-requires c κs = tt
 
 returns : tie.Need-returns
 unfolding isConnected

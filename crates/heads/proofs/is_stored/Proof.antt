@@ -3,12 +3,11 @@ use mathlib.Core.Path.{_≡_, sym, _∙_, ap}
 use mathlib.Core.Bool.{true, false, not}
 use borrow.Author.Tests.{not-true, not-false}
 use Rattle.rules.specs.Records.{used, stored}
-use borrow.Author.Needs.{needs}
 use Rattle.heads.proofs.is_stored.Statement.{statement}
 use Rattle.heads.proofs.is_stored.Tie as tie
 
 is-used-requires : tie.Need-is-used-requires
-is-used-requires c κs = search needs
+is-used-requires c κs = tt
 
 returns : tie.Need-returns
 unfolding stored
@@ -17,7 +16,7 @@ returns c =
     rw e
 
 is-connected-requires : tie.Need-is-connected-requires
-is-connected-requires c κs = search needs
+is-connected-requires c κs = tt
 
 returns-2 : tie.Need-returns-2
 unfolding stored

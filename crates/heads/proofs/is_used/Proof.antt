@@ -1,11 +1,10 @@
 -- The tip is not NONE_REF.
 use Rattle.rules.specs.Records.{used}
-use borrow.Author.Needs.{needs}
 use Rattle.heads.proofs.is_used.Statement.{statement}
 use Rattle.heads.proofs.is_used.Tie as tie
 
 word-at-requires : tie.Need-word-at-requires
-word-at-requires c κs = search needs
+word-at-requires c κs = tt
 
 returns : tie.Need-returns
 unfolding used

@@ -5,22 +5,22 @@ use Rattle.heads.proofs.put_head.Statement.{statement}
 use Rattle.heads.proofs.put_head.Tie as tie
 
 put-word-requires : tie.Need-put-word-requires
-put-word-requires c κs = search needs
+put-word-requires c κs = tt
 
 put-word-requires-2 : tie.Need-put-word-requires-2
-put-word-requires-2 c κs = search needs
+put-word-requires-2 c κs = tt
 
 put-hash-requires : tie.Need-put-hash-requires
-put-hash-requires c κs = search needs
+put-hash-requires c κs = tt
 
 put-time-requires : tie.Need-put-time-requires
-put-time-requires c κs = search needs
+put-time-requires c κs = tt
 
 put-time-requires-2 : tie.Need-put-time-requires-2
-put-time-requires-2 c κs = search needs
+put-time-requires-2 c κs = tt
 
 put-byte-requires : tie.Need-put-byte-requires
-put-byte-requires c κs = search needs
+put-byte-requires c κs = tt
 
 same-length : tie.Need-same-length
 same-length c = search needs

@@ -1,5 +1,4 @@
 -- None of the heads before `k` lost its tip.
-use borrow.Author.Needs.{needs}
 use native.Mathlib.Omega.{arith}
 use Prim.Native.Nat.{_≤_, _-_}
 use mathlib.Core.Path.{_≡_, sym, _∙_}
@@ -17,13 +16,13 @@ abbrev μ-loop : tie.MeasureT-loop
 μ-loop deleted tips m k₀ k = m - k
 
 slots-requires : tie.Need-slots-requires Inv-loop μ-loop
-slots-requires c κs = search needs
+slots-requires c κs = tt
 
 loop-holds : tie.Need-loop-holds Inv-loop μ-loop
 loop-holds c = (omega arith, lowest-none _)
 
 is-head-freed-requires : tie.Need-is-head-freed-requires Inv-loop μ-loop
-is-head-freed-requires c κs = search needs
+is-head-freed-requires c κs = tt
 
 returns : tie.Need-returns Inv-loop μ-loop
 returns c = sym (lowest-at _ (c .before .before .before .loop .k) _ (c .before .before .before .loop .inv .1) (sym (c .before .is-head-freed .ensures) ∙ c .if1 .taken) (omega (arith, c .before .before .before .before .slots .ensures)))

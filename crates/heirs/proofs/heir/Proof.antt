@@ -1,14 +1,13 @@
 -- By whether the parent takes over.
 use mathlib.Core.Path.{sym, _∙_}
-use borrow.Author.Needs.{needs}
 use Rattle.heirs.proofs.heir.Statement.{statement}
 use Rattle.heirs.proofs.heir.Tie as tie
 
 takes-over-requires : tie.Need-takes-over-requires
-takes-over-requires c κs = search needs
+takes-over-requires c κs = tt
 
 first-freed-requires : tie.Need-first-freed-requires
-first-freed-requires c κs = search needs
+first-freed-requires c κs = tt
 
 returns : tie.Need-returns
 returns c = rw (sym (c .before .before .takes-over .ensures) ∙ c .before .if1 .taken) (c .first-freed .ensures)

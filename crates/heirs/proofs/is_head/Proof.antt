@@ -7,7 +7,7 @@ use Rattle.heirs.proofs.is_head.Statement.{statement}
 use Rattle.heirs.proofs.is_head.Tie as tie
 
 slot-of-head-requires : tie.Need-slot-of-head-requires
-slot-of-head-requires c κs = search needs
+slot-of-head-requires c κs = tt
 
 enum-told : tie.Need-enum-told
 enum-told c = search needs

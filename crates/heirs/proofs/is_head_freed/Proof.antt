@@ -4,12 +4,11 @@ use mathlib.Core.Bool.{true, false}
 use borrow.Author.Tests.{not-true, not-false}
 use Rattle.rules.specs.Records.{used}
 use Rattle.rules.specs.Removal.{headFreed}
-use borrow.Author.Needs.{needs}
 use Rattle.heirs.proofs.is_head_freed.Statement.{statement}
 use Rattle.heirs.proofs.is_head_freed.Tie as tie
 
 is-used-requires : tie.Need-is-used-requires
-is-used-requires c κs = search needs
+is-used-requires c κs = tt
 
 returns : tie.Need-returns
 unfolding headFreed
@@ -18,10 +17,10 @@ returns c =
     rw e
 
 word-at-requires : tie.Need-word-at-requires
-word-at-requires c κs = search needs
+word-at-requires c κs = tt
 
 is-listed-requires : tie.Need-is-listed-requires
-is-listed-requires c κs = search needs
+is-listed-requires c κs = tt
 
 returns-2 : tie.Need-returns-2
 unfolding headFreed

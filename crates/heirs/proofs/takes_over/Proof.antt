@@ -5,12 +5,11 @@ use borrow.Author.Tests.{not-true, not-false}
 use Rattle.rules.specs.Common.{isSome}
 use Rattle.rules.specs.Records.{occupied}
 use Rattle.rules.specs.Caches.{slotOfHead}
-use borrow.Author.Needs.{needs}
 use Rattle.heirs.proofs.takes_over.Statement.{statement}
 use Rattle.heirs.proofs.takes_over.Tie as tie
 
 is-occupied-requires : tie.Need-is-occupied-requires
-is-occupied-requires c κs = search needs
+is-occupied-requires c κs = tt
 
 returns : tie.Need-returns
 returns c =
@@ -18,7 +17,7 @@ returns c =
     rw e
 
 is-head-requires : tie.Need-is-head-requires
-is-head-requires c κs = search needs
+is-head-requires c κs = tt
 
 returns-2 : tie.Need-returns-2
 returns-2 c =
@@ -27,7 +26,7 @@ returns-2 c =
     rw (e, f)
 
 is-childless-requires : tie.Need-is-childless-requires
-is-childless-requires c κs = search needs
+is-childless-requires c κs = tt
 
 returns-3 : tie.Need-returns-3
 returns-3 c =

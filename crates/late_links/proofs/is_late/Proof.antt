@@ -1,16 +1,15 @@
 -- The tests in turn.
-use mathlib.Core.Path.{_≡_, refl, sym, ap, _∙_}
+use mathlib.Core.Path.{_≡_, sym, _∙_}
 use mathlib.Core.Bool.{true, false}
 use borrow.Author.Tests.{eq-eqb, ne-eqb, not-true, not-false}
 use lib.Dec.{eqb}
-use Rattle.rules.specs.Records.{NONE, headsOf, occupied, tailAt, parentAt}
+use Rattle.rules.specs.Records.{NONE, headsOf, occupied, parentAt}
 use Rattle.rules.specs.Admission.{misses, late}
-use borrow.Author.Needs.{needs}
 use Rattle.late_links.proofs.is_late.Statement.{statement}
 use Rattle.late_links.proofs.is_late.Tie as tie
 
 misses-requires : tie.Need-misses-requires
-misses-requires c κs = search needs
+misses-requires c κs = tt
 
 returns : tie.Need-returns
 unfolding late
@@ -19,7 +18,7 @@ returns c =
     rw e
 
 word-at-requires : tie.Need-word-at-requires
-word-at-requires c κs = search needs
+word-at-requires c κs = tt
 
 returns-2 : tie.Need-returns-2
 unfolding late
@@ -28,7 +27,7 @@ returns-2 c =
     rw (e, eq-eqb _ _ (sym (c .before .before .word-at .ensures) ∙ c .if2 .taken))
 
 is-occupied-requires : tie.Need-is-occupied-requires
-is-occupied-requires c κs = search needs
+is-occupied-requires c κs = tt
 
 returns-3 : tie.Need-returns-3
 unfolding late
@@ -38,7 +37,7 @@ returns-3 c =
     rw (e, ← c .before .before .before .before .word-at .ensures, ne-eqb _ _ (c .before .before .if2 .left), o)
 
 word-at-requires-2 : tie.Need-word-at-requires-2
-word-at-requires-2 c κs = search needs
+word-at-requires-2 c κs = tt
 
 returns-4 : tie.Need-returns-4
 unfolding late
@@ -49,10 +48,10 @@ returns-4 c =
     rw (e, ← c .before .before .before .before .before .before .word-at .ensures, ne-eqb _ _ (c .before .before .before .before .if2 .left), o, p)
 
 word-at-requires-3 : tie.Need-word-at-requires-3
-word-at-requires-3 c κs = search needs
+word-at-requires-3 c κs = tt
 
 comes-after-requires : tie.Need-comes-after-requires
-comes-after-requires c κs = search needs
+comes-after-requires c κs = tt
 
 returns-5 : tie.Need-returns-5
 unfolding late

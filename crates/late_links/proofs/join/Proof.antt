@@ -1,5 +1,5 @@
 -- By whether the new block is a head.
-use mathlib.Core.Path.{_≡_, refl, sym, ap, _∙_}
+use mathlib.Core.Path.{refl, sym, ap, _∙_}
 use Rattle.rules.specs.Answers.{headFound}
 use Rattle.rules.specs.BlockTable.{adjust}
 use Rattle.rules.specs.Admission.{joined}
@@ -8,22 +8,22 @@ use Rattle.late_links.proofs.join.Statement.{statement}
 use Rattle.late_links.proofs.join.Tie as tie
 
 slot-of-head-requires : tie.Need-slot-of-head-requires
-slot-of-head-requires c κs = search needs
+slot-of-head-requires c κs = tt
 
 enum-known-own : tie.Need-enum-known-own
 enum-known-own c = search needs
 
 empty-requires : tie.Need-empty-requires
-empty-requires c κs = search needs
+empty-requires c κs = tt
 
 put-head-requires : tie.Need-put-head-requires
-put-head-requires c κs = search needs
+put-head-requires c κs = tt
 
 enum-told : tie.Need-enum-told
 enum-told c = search needs
 
 count-child-requires : tie.Need-count-child-requires
-count-child-requires c κs = search needs
+count-child-requires c κs = tt
 
 same-length : tie.Need-same-length
 same-length c = c .before .before .before .before .before .before .before .before .before .before .before .before .put-head .kept .0
@@ -53,7 +53,7 @@ same-length-7 : tie.Need-same-length-7
 same-length-7 c = c .before .before .count-child .kept .1 .0
 
 same-length-8 : tie.Need-same-length-8
-same-length-8 c = search needs
+same-length-8 c = refl
 
 returns-2 : tie.Need-returns-2
 unfolding joined adjust

@@ -1,18 +1,17 @@
 -- The parent, then the count or the head.
-use mathlib.Core.Path.{_≡_, refl, sym, ap, _∙_}
+use mathlib.Core.Path.{_∙_}
 use Rattle.rules.specs.Admission.{link}
-use borrow.Author.Needs.{needs}
 use Rattle.late_links.proofs.link.Statement.{statement}
 use Rattle.late_links.proofs.link.Tie as tie
 
 word-at-requires : tie.Need-word-at-requires
-word-at-requires c κs = search needs
+word-at-requires c κs = tt
 
 resolve-parent-ref-requires : tie.Need-resolve-parent-ref-requires
-resolve-parent-ref-requires c κs = search needs
+resolve-parent-ref-requires c κs = tt
 
 join-requires : tie.Need-join-requires
-join-requires c κs = search needs
+join-requires c κs = tt
 
 same-length : tie.Need-same-length
 same-length c = c .before .before .before .before .before .before .before .before .before .before .before .before .before .before .before .before .before .before .before .before .before .before .before .before .before .resolve-parent-ref .kept .0

@@ -1,18 +1,16 @@
 -- By whether it is late.
-use mathlib.Core.Path.{_≡_, refl, sym, ap, _∙_}
+use mathlib.Core.Path.{_≡_, refl, sym, _∙_}
 use mathlib.Core.Bool.{true, false}
-use borrow.Author.Tests.{eq-eqb, ne-eqb, not-true, not-false}
 use Rattle.rules.specs.Records.{tablesOf}
 use Rattle.rules.specs.Admission.{late, linkLate}
-use borrow.Author.Needs.{needs}
 use Rattle.late_links.proofs.link_late.Statement.{statement}
 use Rattle.late_links.proofs.link_late.Tie as tie
 
 is-late-requires : tie.Need-is-late-requires
-is-late-requires c κs = search needs
+is-late-requires c κs = tt
 
 link-requires : tie.Need-link-requires
-link-requires c κs = search needs
+link-requires c κs = tt
 
 same-length : tie.Need-same-length
 same-length c = c .before .before .before .before .before .before .before .before .before .before .before .before .before .before .before .before .link .kept .1 .0
@@ -45,28 +43,28 @@ returns c =
     rw e (c .before .before .before .before .before .before .before .before .before .before .before .before .before .before .before .before .link .ensures)
 
 same-length-9 : tie.Need-same-length-9
-same-length-9 c = search needs
+same-length-9 c = refl
 
 same-length-10 : tie.Need-same-length-10
-same-length-10 c = search needs
+same-length-10 c = refl
 
 same-length-11 : tie.Need-same-length-11
-same-length-11 c = search needs
+same-length-11 c = refl
 
 same-length-12 : tie.Need-same-length-12
-same-length-12 c = search needs
+same-length-12 c = refl
 
 same-length-13 : tie.Need-same-length-13
-same-length-13 c = search needs
+same-length-13 c = refl
 
 same-length-14 : tie.Need-same-length-14
-same-length-14 c = search needs
+same-length-14 c = refl
 
 same-length-15 : tie.Need-same-length-15
-same-length-15 c = search needs
+same-length-15 c = refl
 
 same-length-16 : tie.Need-same-length-16
-same-length-16 c = search needs
+same-length-16 c = refl
 
 returns-2 : tie.Need-returns-2
 unfolding linkLate

@@ -1,18 +1,16 @@
 -- By whether it missed the hash.
-use mathlib.Core.Path.{_≡_, refl, sym, ap, _∙_}
+use mathlib.Core.Path.{_≡_, refl, sym, _∙_}
 use mathlib.Core.Bool.{true, false}
-use borrow.Author.Tests.{eq-eqb, ne-eqb, not-true, not-false}
 use Rattle.rules.specs.Records.{headsOf}
 use Rattle.rules.specs.Admission.{misses, recomputeMissed}
-use borrow.Author.Needs.{needs}
 use Rattle.late_tails.proofs.recompute_missed.Statement.{statement}
 use Rattle.late_tails.proofs.recompute_missed.Tie as tie
 
 misses-requires : tie.Need-misses-requires
-misses-requires c κs = search needs
+misses-requires c κs = tt
 
 recompute-caches-requires : tie.Need-recompute-caches-requires
-recompute-caches-requires c κs = search needs
+recompute-caches-requires c κs = tt
 
 same-length : tie.Need-same-length
 same-length c = c .before .before .before .before .before .before .before .before .recompute-caches .kept .1 .1 .1 .1 .0
@@ -33,16 +31,16 @@ returns c =
     rw (e, ← c .before .before .before .before .before .before .before .before .recompute-caches .ensures)
 
 same-length-5 : tie.Need-same-length-5
-same-length-5 c = search needs
+same-length-5 c = refl
 
 same-length-6 : tie.Need-same-length-6
-same-length-6 c = search needs
+same-length-6 c = refl
 
 same-length-7 : tie.Need-same-length-7
-same-length-7 c = search needs
+same-length-7 c = refl
 
 same-length-8 : tie.Need-same-length-8
-same-length-8 c = search needs
+same-length-8 c = refl
 
 returns-2 : tie.Need-returns-2
 unfolding recomputeMissed

@@ -1,53 +1,71 @@
--- None of the heads before `k` waits at this tail.
-use borrow.Author.Needs.{needs}
+-- `k` is the next head with this tail, and none before it waits there.
 use native.Mathlib.Omega.{arith}
-use Prim.Native.Nat.{ℕ, _≤_, _-_}
+use Prim.Native.Nat.{_≤_, _-_, _+_}
 use mathlib.Core.Path.{_≡_, sym, _∙_}
-use mathlib.Core.Option.{Option, none, some}
+use mathlib.Core.Option.{none, some}
 use Rattle.rules.specs.Common.{lowest}
 use Rattle.rules.specs.Records.{slotsOf}
 use Rattle.rules.specs.Caches.{waitsAt, knowing}
-use Rattle.rules.proofs.Search.{lowest-none, lowest-next, lowest-at}
+use Rattle.rules.proofs.Search.{lowest-at}
+use Rattle.cells.proofs.Places.{next-after}
+use Rattle.missing_hashes.proofs.Waits.{Passed, waits-stored, passed-first, passed-next, passed-none}
 use Rattle.missing_hashes.proofs.knowing.Statement.{statement}
 use Rattle.missing_hashes.proofs.knowing.Tie as tie
 
 abbrev Inv-loop : tie.InvT-loop
-Inv-loop tips tails connected tail head m k₀ k = (k ≤ m) × (lowest (waitsAt tips tails connected (tail .0)) k ≡ none)
+Inv-loop tips tails connected tail head m k₀ k = Passed tips tails connected (tail .0) k
 
 abbrev μ-loop : tie.MeasureT-loop
-μ-loop tips tails connected tail head m k₀ k = m - k
+μ-loop tips tails connected tail head m k₀ k = slotsOf tails - k
 
 slots-requires : tie.Need-slots-requires Inv-loop μ-loop
-slots-requires c κs = search needs
+slots-requires c κs = tt
 
-loop-holds : tie.Need-loop-holds Inv-loop μ-loop
-loop-holds c = (omega arith, lowest-none _)
+slots-requires-2 : tie.Need-slots-requires-2 Inv-loop μ-loop
+slots-requires-2 c κs = tt
 
-waits-at-requires : tie.Need-waits-at-requires Inv-loop μ-loop
-waits-at-requires c κs = search needs
+knowing-by-head-requires : tie.Need-knowing-by-head-requires Inv-loop μ-loop
+knowing-by-head-requires c κs = tt
 
 returns : tie.Need-returns Inv-loop μ-loop
-unfolding knowing
-returns c =
-    let e : lowest (waitsAt (c .before .before .before .before .before .before .before .before .args .tips .now) (c .before .before .before .before .before .before .before .before .args .tails .now) (c .before .before .before .before .before .before .before .before .args .connected .now) (c .before .before .before .before .before .before .before .before .args .tail .0)) (slotsOf (c .before .before .before .before .before .before .before .before .args .tips .now)) ≡ some (c .before .before .before .loop .k) =
-    lowest-at _ (c .before .before .before .loop .k) _ (c .before .before .before .loop .inv .1) (sym (c .before .waits-at .ensures) ∙ c .if1 .taken) (omega (arith, c .before .before .before .before .slots .ensures)) in
-    rw (e, knowing)
+returns c = c .knowing-by-head .ensures
 
-add-k : tie.Need-add-k Inv-loop μ-loop
-add-k c = omega arith
+next-at-requires : tie.Need-next-at-requires Inv-loop μ-loop
+next-at-requires c κs = tt
 
-loop-less : tie.Need-loop-less Inv-loop μ-loop
-loop-less c = omega arith
+loop-holds : tie.Need-loop-holds Inv-loop μ-loop
+loop-holds c = rw (c .next-at .ensures) (passed-first (c .before .before .before .before .before .before .before .args .tips .now) (c .before .before .before .before .before .before .before .args .tails .now) (c .before .before .before .before .before .before .before .args .connected .now) (c .before .before .before .before .before .before .before .args .tail .0))
 
-loop-again : tie.Need-loop-again Inv-loop μ-loop
-loop-again c = (omega arith, lowest-next _ (c .before .before .before .loop .k) (c .before .before .before .loop .inv .1) (sym (c .before .waits-at .ensures) ∙ c .if1 .left))
+is-stored-requires : tie.Need-is-stored-requires Inv-loop μ-loop
+is-stored-requires c κs = tt
 
 returns-2 : tie.Need-returns-2 Inv-loop μ-loop
 unfolding knowing
 returns-2 c =
-    let d : c .before .loop .k ≡ c .before .before .slots .result = omega arith in
-    let e : lowest (waitsAt (c .before .before .before .before .before .before .args .tips .now) (c .before .before .before .before .before .before .args .tails .now) (c .before .before .before .before .before .before .args .connected .now) (c .before .before .before .before .before .before .args .tail .0)) (slotsOf (c .before .before .before .before .before .before .args .tips .now)) ≡ none =
-    rw (← c .before .before .slots .ensures, ← d) (c .before .loop .inv .1) in
+    let k = c .before .before .before .loop .k in
+    let waits = waits-stored (c .before .before .before .before .before .before .before .before .before .before .before .args .tips .now) (c .before .before .before .before .before .before .before .before .before .before .before .args .tails .now) (c .before .before .before .before .before .before .before .before .before .before .before .args .connected .now) (c .before .before .before .before .before .before .before .before .before .before .before .args .tail .0) k (c .before .before .before .loop .inv .1 .1 (omega (arith, c .before .before .before .before .before .before .before .slots .ensures, c .before .before .before .before .before .before .slots2 .ensures))) ∙ sym (c .before .is-stored .ensures) ∙ c .if2 .taken in
+    let e : lowest (waitsAt (c .before .before .before .before .before .before .before .before .before .before .before .args .tips .now) (c .before .before .before .before .before .before .before .before .before .before .before .args .tails .now) (c .before .before .before .before .before .before .before .before .before .before .before .args .connected .now) (c .before .before .before .before .before .before .before .before .before .before .before .args .tail .0)) (slotsOf (c .before .before .before .before .before .before .before .before .before .before .before .args .tips .now)) ≡ some k = lowest-at _ k _ (passed-none (c .before .before .before .before .before .before .before .before .before .before .before .args .tips .now) (c .before .before .before .before .before .before .before .before .before .before .before .args .tails .now) (c .before .before .before .before .before .before .before .before .before .before .before .args .connected .now) (c .before .before .before .before .before .before .before .before .before .before .before .args .tail .0) k k (omega arith) (c .before .before .before .loop .inv)) waits (omega (arith, c .before .before .before .before .before .before .before .slots .ensures)) in
+    rw (e, knowing)
+
+add-next-at : tie.Need-add-next-at Inv-loop μ-loop
+add-next-at c = omega arith
+
+next-at-requires-2 : tie.Need-next-at-requires-2 Inv-loop μ-loop
+next-at-requires-2 c κs = tt
+
+loop-less : tie.Need-loop-less Inv-loop μ-loop
+loop-less c = omega (arith, c .before .before .before .before .before .before .before .before .slots .ensures, c .before .before .before .before .before .before .before .slots2 .ensures, c .next-at2 .ensures, next-after (c .before .before .before .before .before .before .before .before .before .before .before .before .args .tails .now) (c .before .before .before .before .loop .k + 1) (c .before .before .before .before .before .before .before .before .before .before .before .before .args .tail .0) (omega (arith, c .before .before .before .before .before .before .before .before .slots .ensures, c .before .before .before .before .before .before .before .slots2 .ensures)))
+
+loop-again : tie.Need-loop-again Inv-loop μ-loop
+loop-again c =
+    let k = c .before .before .before .before .loop .k in
+    let waits = waits-stored (c .before .before .before .before .before .before .before .before .before .before .before .before .args .tips .now) (c .before .before .before .before .before .before .before .before .before .before .before .before .args .tails .now) (c .before .before .before .before .before .before .before .before .before .before .before .before .args .connected .now) (c .before .before .before .before .before .before .before .before .before .before .before .before .args .tail .0) k (c .before .before .before .before .loop .inv .1 .1 (omega (arith, c .before .before .before .before .before .before .before .before .slots .ensures, c .before .before .before .before .before .before .before .slots2 .ensures))) ∙ sym (c .before .before .is-stored .ensures) ∙ c .before .if2 .left in
+    rw (c .next-at2 .ensures) (passed-next (c .before .before .before .before .before .before .before .before .before .before .before .before .args .tips .now) (c .before .before .before .before .before .before .before .before .before .before .before .before .args .tails .now) (c .before .before .before .before .before .before .before .before .before .before .before .before .args .connected .now) (c .before .before .before .before .before .before .before .before .before .before .before .before .args .tail .0) k (c .before .before .before .before .loop .inv) waits)
+
+returns-3 : tie.Need-returns-3 Inv-loop μ-loop
+unfolding knowing
+returns-3 c =
+    let e : lowest (waitsAt (c .before .before .before .before .before .before .before .before .before .args .tips .now) (c .before .before .before .before .before .before .before .before .before .args .tails .now) (c .before .before .before .before .before .before .before .before .before .args .connected .now) (c .before .before .before .before .before .before .before .before .before .args .tail .0)) (slotsOf (c .before .before .before .before .before .before .before .before .before .args .tips .now)) ≡ none = passed-none (c .before .before .before .before .before .before .before .before .before .args .tips .now) (c .before .before .before .before .before .before .before .before .before .args .tails .now) (c .before .before .before .before .before .before .before .before .before .args .connected .now) (c .before .before .before .before .before .before .before .before .before .args .tail .0) _ (c .before .loop .k) (omega (arith, c .before .before .before .before .before .slots .ensures)) (c .before .loop .inv) in
     rw (e, knowing)
 
 pub knowing-spec : {M : Type 1} → statement M
@@ -57,10 +75,15 @@ knowing-spec =
     Inv-loop
     μ-loop
     slots-requires
-    loop-holds
-    waits-at-requires
+    slots-requires-2
+    knowing-by-head-requires
     returns
-    add-k
+    next-at-requires
+    loop-holds
+    is-stored-requires
+    returns-2
+    add-next-at
+    next-at-requires-2
     loop-less
     loop-again
-    returns-2)
+    returns-3)

@@ -1,30 +1,20 @@
--- Stored, with this tail.
-use mathlib.Core.Path.{_≡_, sym, _∙_}
-use mathlib.Core.Bool.{true, false}
-use borrow.Author.Tests.{not-true, not-false}
-use Rattle.rules.specs.Records.{stored}
-use Rattle.rules.specs.Caches.{waitsAt}
-use borrow.Author.Needs.{needs}
+-- By the tail.
+use mathlib.Core.Path.{sym, _∙_}
+use Rattle.missing_hashes.proofs.Waits.{waits-elsewhere, waits-stored}
 use Rattle.missing_hashes.proofs.waits_at.Statement.{statement}
 use Rattle.missing_hashes.proofs.waits_at.Tie as tie
 
-is-stored-requires : tie.Need-is-stored-requires
-is-stored-requires c κs = search needs
+word-at-requires : tie.Need-word-at-requires
+word-at-requires c κs = tt
 
 returns : tie.Need-returns
-unfolding waitsAt
-returns c =
-    let e : stored (c .before .before .before .before .before .args .tips .now) (c .before .before .before .before .before .args .connected .now) (c .before .before .before .before .before .args .head .0) ≡ false = sym (c .before .is-stored .ensures) ∙ not-true (c .before .is-stored .result) (c .if1 .taken) in
-    rw e
+returns c = sym (waits-elsewhere _ _ _ _ _ (λ q. c .if1 .taken (c .before .before .word-at .ensures ∙ q)))
 
-word-at-requires : tie.Need-word-at-requires
-word-at-requires c κs = search needs
+is-stored-requires : tie.Need-is-stored-requires
+is-stored-requires c κs = tt
 
 returns-2 : tie.Need-returns-2
-unfolding waitsAt
-returns-2 c =
-    let e : stored (c .before .before .before .before .before .before .before .args .tips .now) (c .before .before .before .before .before .before .before .args .connected .now) (c .before .before .before .before .before .before .before .args .head .0) ≡ true = sym (c .before .before .before .is-stored .ensures) ∙ not-false (c .before .before .before .is-stored .result) (c .before .before .if1 .left) in
-    rw (e, c .before .word-at .ensures)
+returns-2 c = c .is-stored .ensures ∙ sym (waits-stored _ _ _ _ _ (sym (c .before .before .before .word-at .ensures) ∙ c .before .if1 .left))
 
 pub waits-at-spec : {M : Type 1} → statement M
-waits-at-spec = tie.close (tie.spec is-stored-requires returns word-at-requires returns-2)
+waits-at-spec = tie.close (tie.spec word-at-requires returns is-stored-requires returns-2)

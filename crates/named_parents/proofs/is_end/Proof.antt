@@ -9,7 +9,7 @@ use Rattle.named_parents.proofs.is_end.Statement.{statement}
 use Rattle.named_parents.proofs.is_end.Tie as tie
 
 is-occupied-requires : tie.Need-is-occupied-requires
-is-occupied-requires c κs = search needs
+is-occupied-requires c κs = tt
 
 returns : tie.Need-returns
 unfolding isEnd
@@ -22,7 +22,7 @@ cast-at : tie.Need-cast-at
 cast-at c = search needs
 
 byte-at-requires : tie.Need-byte-at-requires
-byte-at-requires c κs = search needs
+byte-at-requires c κs = tt
 
 returns-2 : tie.Need-returns-2
 unfolding isEnd
@@ -33,7 +33,7 @@ returns-2 c =
     rw (o, lt-ltb _ _ (c .before .if2 .taken), c .byte-at .ensures)
 
 is-childless-requires : tie.Need-is-childless-requires
-is-childless-requires c κs = search needs
+is-childless-requires c κs = tt
 
 returns-3 : tie.Need-returns-3
 unfolding isEnd

@@ -1,5 +1,4 @@
 -- The blocks before `i` have named their parents.
-use borrow.Author.Needs.{needs}
 use native.Mathlib.Omega.{arith}
 use Prim.Native.Nat.{_≤_, _-_}
 use mathlib.Core.Path.{_≡_, refl, sym, _∙_}
@@ -18,16 +17,16 @@ abbrev μ-loop : tie.MeasureT-loop
 μ-loop parents sequences named₀ n i₀ named i = n - i
 
 fill-bytes-requires : tie.Need-fill-bytes-requires Inv-loop μ-loop
-fill-bytes-requires c κs = search needs
+fill-bytes-requires c κs = tt
 
 slots-requires : tie.Need-slots-requires Inv-loop μ-loop
-slots-requires c κs = search needs
+slots-requires c κs = tt
 
 loop-holds : tie.Need-loop-holds Inv-loop μ-loop
 loop-holds c = (omega arith, (refl, sym (in-order-none _ _)))
 
 name-parent-requires : tie.Need-name-parent-requires Inv-loop μ-loop
-name-parent-requires c κs = search needs
+name-parent-requires c κs = tt
 
 add-i : tie.Need-add-i Inv-loop μ-loop
 add-i c = omega arith

@@ -7,10 +7,10 @@ use Rattle.probe.proofs.probe_adjust_head_ref_count.Statement.{statemen
 use Rattle.probe.proofs.probe_adjust_head_ref_count.Tie as tie
 
 adjust-head-ref-count-requires : tie.Need-adjust-head-ref-count-requires
-adjust-head-ref-count-requires c κs = search needs
+adjust-head-ref-count-requires c κs = tt
 
 counted-requires : tie.Need-counted-requires
-counted-requires c κs = search needs
+counted-requires c κs = tt
 
 same-length : tie.Need-same-length
 same-length c = search needs

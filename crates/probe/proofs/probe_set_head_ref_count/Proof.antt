@@ -5,10 +5,10 @@ use Rattle.probe.proofs.probe_set_head_ref_count.Statement.{statement}
 use Rattle.probe.proofs.probe_set_head_ref_count.Tie as tie
 
 set-head-ref-count-requires : tie.Need-set-head-ref-count-requires
-set-head-ref-count-requires c κs = search needs
+set-head-ref-count-requires c κs = tt
 
 said-requires : tie.Need-said-requires
-said-requires c κs = search needs
+said-requires c κs = tt
 
 same-length : tie.Need-same-length
 same-length c = search needs

@@ -5,10 +5,10 @@ use Rattle.probe.proofs.probe_set_on_active_chain.Statement.{statement}
 use Rattle.probe.proofs.probe_set_on_active_chain.Tie as tie
 
 set-on-active-chain-requires : tie.Need-set-on-active-chain-requires
-set-on-active-chain-requires c κs = search needs
+set-on-active-chain-requires c κs = tt
 
 said-requires : tie.Need-said-requires
-said-requires c κs = search needs
+said-requires c κs = tt
 
 same-length : tie.Need-same-length
 same-length c = search needs

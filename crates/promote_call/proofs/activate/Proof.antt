@@ -1,14 +1,13 @@
 -- Flag, then status.
 use mathlib.Core.Path.{_∙_}
-use borrow.Author.Needs.{needs}
 use Rattle.promote_call.proofs.activate.Statement.{statement}
 use Rattle.promote_call.proofs.activate.Tie as tie
 
 set-on-active-chain-requires : tie.Need-set-on-active-chain-requires
-set-on-active-chain-requires c κs = search needs
+set-on-active-chain-requires c κs = tt
 
 set-status-requires : tie.Need-set-status-requires
-set-status-requires c κs = search needs
+set-status-requires c κs = tt
 
 same-length : tie.Need-same-length
 same-length c = c .before .before .set-status .kept .1 .0 ∙ c .before .before .before .before .before .before .set-on-active-chain .kept .1 .0

@@ -1,6 +1,5 @@
 -- None held, or its parent held.
 use borrow.Author.Tests.{eq-eqb, ne-eqb}
-use borrow.Author.Needs.{needs}
 use Rattle.promote_call.proofs.is_next.Statement.{statement}
 use Rattle.promote_call.proofs.is_next.Tie as tie
 
@@ -8,7 +7,7 @@ returns : tie.Need-returns
 returns c = rw (eq-eqb _ _ (c .if1 .taken))
 
 word-at-requires : tie.Need-word-at-requires
-word-at-requires c κs = search needs
+word-at-requires c κs = tt
 
 returns-2 : tie.Need-returns-2
 returns-2 c = rw (ne-eqb _ _ (c .before .before .if1 .left), c .before .word-at .ensures)

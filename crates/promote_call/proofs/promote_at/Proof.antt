@@ -5,12 +5,11 @@ use borrow.Author.Tests.{not-true, not-false}
 use lib.Dec.{eqb}
 use Rattle.rules.specs.Records.{NONE, tablesOf, parentAt, occupied}
 use Rattle.rules.specs.Calls.{shaped, isNext, promote}
-use borrow.Author.Needs.{needs}
 use Rattle.promote_call.proofs.promote_at.Statement.{statement}
 use Rattle.promote_call.proofs.promote_at.Tie as tie
 
 is-shaped-requires : tie.Need-is-shaped-requires
-is-shaped-requires c κs = search needs
+is-shaped-requires c κs = tt
 
 same-length : tie.Need-same-length
 same-length c = refl
@@ -35,7 +34,7 @@ returns c =
     (rw e, (rw e, rw e))
 
 is-occupied-requires : tie.Need-is-occupied-requires
-is-occupied-requires c κs = search needs
+is-occupied-requires c κs = tt
 
 same-length-6 : tie.Need-same-length-6
 same-length-6 c = refl
@@ -61,7 +60,7 @@ returns-2 c =
     (rw (e, o), (rw (e, o), rw (e, o)))
 
 is-next-requires : tie.Need-is-next-requires
-is-next-requires c κs = search needs
+is-next-requires c κs = tt
 
 same-length-11 : tie.Need-same-length-11
 same-length-11 c = refl
@@ -88,7 +87,7 @@ returns-3 c =
     (rw (e, o, n), (rw (e, o, n), rw (e, o, n)))
 
 raise-requires : tie.Need-raise-requires
-raise-requires c κs = search needs
+raise-requires c κs = tt
 
 same-length-16 : tie.Need-same-length-16
 same-length-16 c = c .before .before .before .before .before .before .before .before .before .before .raise .kept .1 .1 .1 .1 .0

@@ -1,14 +1,13 @@
 -- Flag and status, then all caches.
 use Rattle.rules.specs.Promotion.{activate, promoted}
-use borrow.Author.Needs.{needs}
 use Rattle.promote_call.proofs.raise.Statement.{statement}
 use Rattle.promote_call.proofs.raise.Tie as tie
 
 activate-requires : tie.Need-activate-requires
-activate-requires c κs = search needs
+activate-requires c κs = tt
 
 recompute-all-caches-requires : tie.Need-recompute-all-caches-requires
-recompute-all-caches-requires c κs = search needs
+recompute-all-caches-requires c κs = tt
 
 same-length : tie.Need-same-length
 same-length c = c .before .before .before .before .before .before .before .before .before .before .before .before .before .before .before .before .activate .kept .1 .0

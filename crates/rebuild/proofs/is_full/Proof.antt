@@ -10,7 +10,7 @@ use Rattle.rebuild.proofs.is_full.Statement.{statement}
 use Rattle.rebuild.proofs.is_full.Tie as tie
 
 first-empty-requires : tie.Need-first-empty-requires
-first-empty-requires c κs = search needs
+first-empty-requires c κs = tt
 
 enum-told : tie.Need-enum-told
 enum-told c = search needs

@@ -1,13 +1,12 @@
 -- By whether the bytes are stale.
-use borrow.Author.Needs.{needs}
 use Rattle.rebuild.proofs.name_again.Statement.{statement}
 use Rattle.rebuild.proofs.name_again.Tie as tie
 
 name-parents-requires : tie.Need-name-parents-requires
-name-parents-requires c κs = search needs
+name-parents-requires c κs = tt
 
 same-length : tie.Need-same-length
-same-length c = search needs
+same-length c = c .before .before .name-parents .kept .1 .1 .0
 
 returns : tie.Need-returns
 returns c = rw (c .before .before .before .before .if1 .taken) (c .before .before .name-parents .ensures)

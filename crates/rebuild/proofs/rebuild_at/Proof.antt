@@ -11,19 +11,19 @@ use Rattle.rebuild.proofs.rebuild_at.Statement.{statement}
 use Rattle.rebuild.proofs.rebuild_at.Tie as tie
 
 is-end-requires : tie.Need-is-end-requires
-is-end-requires c κs = search needs
+is-end-requires c κs = tt
 
 is-full-requires : tie.Need-is-full-requires
-is-full-requires c κs = search needs
+is-full-requires c κs = tt
 
 slice-aggregate-insert-head : tie.Need-slice-aggregate-insert-head
 slice-aggregate-insert-head c = search needs
 
 insert-head-requires : tie.Need-insert-head-requires
-insert-head-requires c κs = search needs
+insert-head-requires c κs = tt
 
 name-again-requires : tie.Need-name-again-requires
-name-again-requires c κs = search needs
+name-again-requires c κs = tt
 
 same-length : tie.Need-same-length
 same-length c = c .before .before .before .before .before .before .before .before .before .before .before .before .before .before .before .before .before .before .before .before .before .before .before .before .before .before .before .before .insert-head .kept .0

@@ -1,5 +1,5 @@
 -- Heads, then counts.
-use mathlib.Core.Path.{_≡_, refl, sym, ap, _∙_}
+use mathlib.Core.Path.{_∙_}
 use Rattle.rules.specs.Rebuild.{rebuilt}
 use borrow.Author.Needs.{needs}
 use Rattle.rebuild.proofs.rebuild_from_blocks.Statement.{statement}
@@ -9,10 +9,10 @@ slice-aggregate-rebuild-heads : tie.Need-slice-aggregate-rebuild-heads
 slice-aggregate-rebuild-heads c = search needs
 
 rebuild-heads-requires : tie.Need-rebuild-heads-requires
-rebuild-heads-requires c κs = search needs
+rebuild-heads-requires c κs = tt
 
 recompute-head-ref-counts-requires : tie.Need-recompute-head-ref-counts-requires
-recompute-head-ref-counts-requires c κs = search needs
+recompute-head-ref-counts-requires c κs = tt
 
 same-length : tie.Need-same-length
 same-length c = c .before .before .before .before .before .before .before .before .before .before .before .before .before .before .before .before .before .before .before .before .before .before .before .before .before .before .before .before .before .rebuild-heads .kept .0

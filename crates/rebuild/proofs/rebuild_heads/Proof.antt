@@ -1,7 +1,6 @@
 -- The slots before `i` are done, and the bytes name the parents.
-use borrow.Author.Needs.{needs}
 use native.Mathlib.Omega.{arith}
-use Prim.Native.Nat.{ℕ, _≤_, _-_, _+_}
+use Prim.Native.Nat.{_≤_, _-_}
 use mathlib.Core.Path.{_≡_, refl, sym, ap, _∙_}
 use lib.ListN.{length}
 use Rattle.rules.specs.Common.{inOrder}
@@ -23,10 +22,10 @@ abbrev μ-loop : tie.MeasureT-loop
 μ-loop hashes₀ parents₀ sequences₀ counts₀ flags₀ tips₀ tails₀ missing₀ requested₀ arrivals₀ connected₀ named₀ arrival active n i₀ hashes parents sequences counts flags tips tails missing requested arrivals connected named i = n - i
 
 name-parents-requires : tie.Need-name-parents-requires Inv-loop μ-loop
-name-parents-requires c κs = search needs
+name-parents-requires c κs = tt
 
 slots-requires : tie.Need-slots-requires Inv-loop μ-loop
-slots-requires c κs = search needs
+slots-requires c κs = tt
 
 loop-holds : tie.Need-loop-holds Inv-loop μ-loop
 loop-holds c =
@@ -34,7 +33,7 @@ loop-holds c =
     (omega arith, ((refl, (refl, (refl, (refl, (refl, (refl, (refl, (refl, (refl, (refl, (refl, refl))))))))))), (sym (in-order-none _ _), m .ensures ∙ ap (namedParents _ _) (sym (m .kept .1 .1 .0)))))
 
 rebuild-at-requires : tie.Need-rebuild-at-requires Inv-loop μ-loop
-rebuild-at-requires c κs = search needs
+rebuild-at-requires c κs = tt
 
 add-i : tie.Need-add-i Inv-loop μ-loop
 add-i c = omega (arith, c .before .before .before .before .before .before .before .before .before .before .before .before .before .before .before .before .before .before .before .before .before .before .before .before .before .before .before .before .before .before .before .before .before .before .before .before .before .loop-test .taken, c .before .before .before .before .before .before .before .before .before .before .before .before .before .before .before .before .before .before .before .before .before .before .before .before .before .before .before .before .before .before .before .before .before .before .before .before .before .before .before .slots .ok)

@@ -5,7 +5,7 @@ use Rattle.recount.proofs.clear_count.Statement.{statement}
 use Rattle.recount.proofs.clear_count.Tie as tie
 
 set-head-ref-count-requires : tie.Need-set-head-ref-count-requires
-set-head-ref-count-requires c κs = search needs
+set-head-ref-count-requires c κs = tt
 
 same-length : tie.Need-same-length
 same-length c = search needs

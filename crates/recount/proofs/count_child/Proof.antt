@@ -10,7 +10,7 @@ use Rattle.recount.proofs.count_child.Statement.{statement}
 use Rattle.recount.proofs.count_child.Tie as tie
 
 is-occupied-requires : tie.Need-is-occupied-requires
-is-occupied-requires c κs = search needs
+is-occupied-requires c κs = tt
 
 returns : tie.Need-returns
 unfolding countChild
@@ -19,13 +19,13 @@ returns c =
     rw e
 
 word-at-requires : tie.Need-word-at-requires
-word-at-requires c κs = search needs
+word-at-requires c κs = tt
 
 slots-requires : tie.Need-slots-requires
-slots-requires c κs = search needs
+slots-requires c κs = tt
 
 adjust-head-ref-count-requires : tie.Need-adjust-head-ref-count-requires
-adjust-head-ref-count-requires c κs = search needs
+adjust-head-ref-count-requires c κs = tt
 
 same-length : tie.Need-same-length
 same-length c = search needs

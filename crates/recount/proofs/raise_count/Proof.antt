@@ -9,7 +9,7 @@ use Rattle.recount.proofs.raise_count.Statement.{statement}
 use Rattle.recount.proofs.raise_count.Tie as tie
 
 is-occupied-requires : tie.Need-is-occupied-requires
-is-occupied-requires c κs = search needs
+is-occupied-requires c κs = tt
 
 returns : tie.Need-returns
 unfolding raiseCount
@@ -18,10 +18,10 @@ returns c =
     rw e
 
 byte-at-requires : tie.Need-byte-at-requires
-byte-at-requires c κs = search needs
+byte-at-requires c κs = tt
 
 put-byte-requires : tie.Need-put-byte-requires
-put-byte-requires c κs = search needs
+put-byte-requires c κs = tt
 
 same-length : tie.Need-same-length
 same-length c = search needs

@@ -6,13 +6,13 @@ use Rattle.recount.proofs.recompute_head_ref_counts.Statement.{statemen
 use Rattle.recount.proofs.recompute_head_ref_counts.Tie as tie
 
 clear-counts-requires : tie.Need-clear-counts-requires
-clear-counts-requires c κs = search needs
+clear-counts-requires c κs = tt
 
 count-children-requires : tie.Need-count-children-requires
-count-children-requires c κs = search needs
+count-children-requires c κs = tt
 
 raise-counts-requires : tie.Need-raise-counts-requires
-raise-counts-requires c κs = search needs
+raise-counts-requires c κs = tt
 
 same-length : tie.Need-same-length
 same-length c = search needs

@@ -1,21 +1,20 @@
 -- The moving head, a freed one, any other.
-use mathlib.Core.Path.{_≡_, sym, _∙_}
+use mathlib.Core.Path.{_≡_, refl, sym, _∙_}
 use mathlib.Core.Bool.{true, false}
 use Rattle.rules.specs.Common.{isAt}
 use Rattle.rules.specs.Answers.{headFound}
 use Rattle.rules.specs.Removal.{headFreed, dropHead}
-use borrow.Author.Needs.{needs}
 use Rattle.removal.proofs.drop_head.Statement.{statement}
 use Rattle.removal.proofs.drop_head.Tie as tie
 
 is-at-requires : tie.Need-is-at-requires
-is-at-requires c κs = search needs
+is-at-requires c κs = tt
 
 put-word-requires : tie.Need-put-word-requires
-put-word-requires c κs = search needs
+put-word-requires c κs = tt
 
 same-length : tie.Need-same-length
-same-length c = search needs
+same-length c = c .before .before .put-word .kept .0
 
 returns : tie.Need-returns
 unfolding dropHead
@@ -24,31 +23,31 @@ returns c =
     rw (e, c .before .before .put-word .ensures)
 
 is-head-freed-requires : tie.Need-is-head-freed-requires
-is-head-freed-requires c κs = search needs
+is-head-freed-requires c κs = tt
 
 empty-requires : tie.Need-empty-requires
-empty-requires c κs = search needs
+empty-requires c κs = tt
 
 put-head-requires : tie.Need-put-head-requires
-put-head-requires c κs = search needs
+put-head-requires c κs = tt
 
 same-length-2 : tie.Need-same-length-2
-same-length-2 c = search needs
+same-length-2 c = c .before .before .before .before .before .before .before .before .before .before .before .before .put-head .kept .0
 
 same-length-3 : tie.Need-same-length-3
-same-length-3 c = search needs
+same-length-3 c = c .before .before .before .before .before .before .before .before .before .before .before .before .put-head .kept .1 .0
 
 same-length-4 : tie.Need-same-length-4
-same-length-4 c = search needs
+same-length-4 c = c .before .before .before .before .before .before .before .before .before .before .before .before .put-head .kept .1 .1 .0
 
 same-length-5 : tie.Need-same-length-5
-same-length-5 c = search needs
+same-length-5 c = c .before .before .before .before .before .before .before .before .before .before .before .before .put-head .kept .1 .1 .1 .0
 
 same-length-6 : tie.Need-same-length-6
-same-length-6 c = search needs
+same-length-6 c = c .before .before .before .before .before .before .before .before .before .before .before .before .put-head .kept .1 .1 .1 .1 .0
 
 same-length-7 : tie.Need-same-length-7
-same-length-7 c = search needs
+same-length-7 c = c .before .before .before .before .before .before .before .before .before .before .before .before .put-head .kept .1 .1 .1 .1 .1 .0
 
 returns-2 : tie.Need-returns-2
 unfolding dropHead
@@ -58,7 +57,7 @@ returns-2 c =
     c .before .before .before .before .before .before .before .before .before .before .before .before .put-head .ensures ∙ rw (e, f, c .before .before .before .before .before .before .before .before .before .before .before .before .before .empty .ensures)
 
 same-length-8 : tie.Need-same-length-8
-same-length-8 c = search needs
+same-length-8 c = refl
 
 returns-3 : tie.Need-returns-3
 unfolding dropHead

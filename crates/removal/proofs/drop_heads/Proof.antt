@@ -1,5 +1,4 @@
 -- The heads before `k` are done.
-use borrow.Author.Needs.{needs}
 use native.Mathlib.Omega.{arith}
 use Prim.Native.Nat.{_≤_, _-_}
 use mathlib.Core.Path.{_≡_, refl, sym, _∙_}
@@ -20,13 +19,13 @@ abbrev μ-loop : tie.MeasureT-loop
 μ-loop tips₀ tails₀ missing₀ requested₀ arrivals₀ connected₀ deleted moving reattach m k₀ tips tails missing requested arrivals connected k = m - k
 
 slots-requires : tie.Need-slots-requires Inv-loop μ-loop
-slots-requires c κs = search needs
+slots-requires c κs = tt
 
 loop-holds : tie.Need-loop-holds Inv-loop μ-loop
 loop-holds c = (omega arith, ((refl, (refl, (refl, (refl, (refl, refl))))), sym (in-order-none _ _)))
 
 drop-head-requires : tie.Need-drop-head-requires Inv-loop μ-loop
-drop-head-requires c κs = search needs
+drop-head-requires c κs = tt
 
 add-k : tie.Need-add-k Inv-loop μ-loop
 add-k c = omega arith

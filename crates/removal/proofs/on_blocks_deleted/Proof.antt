@@ -3,39 +3,38 @@ use mathlib.Core.Path.{ap, _∙_}
 use Rattle.rules.specs.Records.{Heads, tablesOf}
 use Rattle.rules.specs.Removal.{recounted, takesOver, heir, blocksDeleted}
 use Rattle.removal.specs.After.{headsAfter}
-use borrow.Author.Needs.{needs}
 use Rattle.removal.proofs.on_blocks_deleted.Statement.{statement}
 use Rattle.removal.proofs.on_blocks_deleted.Tie as tie
 
 heir-requires : tie.Need-heir-requires
-heir-requires c κs = search needs
+heir-requires c κs = tt
 
 update-heads-requires : tie.Need-update-heads-requires
-update-heads-requires c κs = search needs
+update-heads-requires c κs = tt
 
 recompute-head-ref-counts-requires : tie.Need-recompute-head-ref-counts-requires
-recompute-head-ref-counts-requires c κs = search needs
+recompute-head-ref-counts-requires c κs = tt
 
 same-length : tie.Need-same-length
-same-length c = search needs
+same-length c = c .before .before .recompute-head-ref-counts .kept .1 .1 .0
 
 same-length-2 : tie.Need-same-length-2
-same-length-2 c = search needs
+same-length-2 c = c .before .before .before .before .before .before .before .before .before .before .before .before .before .before .before .before .update-heads .kept .1 .1 .1 .0
 
 same-length-3 : tie.Need-same-length-3
-same-length-3 c = search needs
+same-length-3 c = c .before .before .before .before .before .before .before .before .before .before .before .before .before .before .before .before .update-heads .kept .1 .1 .1 .1 .0
 
 same-length-4 : tie.Need-same-length-4
-same-length-4 c = search needs
+same-length-4 c = c .before .before .before .before .before .before .before .before .before .before .before .before .before .before .before .before .update-heads .kept .1 .1 .1 .1 .1 .0
 
 same-length-5 : tie.Need-same-length-5
-same-length-5 c = search needs
+same-length-5 c = c .before .before .before .before .before .before .before .before .before .before .before .before .before .before .before .before .update-heads .kept .1 .1 .1 .1 .1 .1 .0
 
 same-length-6 : tie.Need-same-length-6
-same-length-6 c = search needs
+same-length-6 c = c .before .before .before .before .before .before .before .before .before .before .before .before .before .before .before .before .update-heads .kept .1 .1 .1 .1 .1 .1 .1 .0
 
 same-length-7 : tie.Need-same-length-7
-same-length-7 c = search needs
+same-length-7 c = c .before .before .before .before .before .before .before .before .before .before .before .before .before .before .before .before .update-heads .kept .1 .1 .1 .1 .1 .1 .1 .1 .0
 
 returns : tie.Need-returns
 unfolding blocksDeleted heir takesOver headsAfter

@@ -4,12 +4,11 @@ use mathlib.Core.Bool.{true, false}
 use borrow.Author.Tests.{not-true, not-false}
 use Rattle.rules.specs.Records.{tablesOf, occupied}
 use Rattle.rules.specs.Calls.{shaped}
-use borrow.Author.Needs.{needs}
 use Rattle.remove_call.proofs.permit.Statement.{statement}
 use Rattle.remove_call.proofs.permit.Tie as tie
 
 is-shaped-requires : tie.Need-is-shaped-requires
-is-shaped-requires c κs = search needs
+is-shaped-requires c κs = tt
 
 returns : tie.Need-returns
 returns c =
@@ -18,7 +17,7 @@ returns c =
     rw e
 
 is-occupied-requires : tie.Need-is-occupied-requires
-is-occupied-requires c κs = search needs
+is-occupied-requires c κs = tt
 
 returns-2 : tie.Need-returns-2
 returns-2 c =

@@ -11,7 +11,7 @@ use Rattle.remove_call.proofs.remove.Statement.{statement}
 use Rattle.remove_call.proofs.remove.Tie as tie
 
 permit-requires : tie.Need-permit-requires
-permit-requires c κs = search needs
+permit-requires c κs = tt
 
 enum-known-why : tie.Need-enum-known-why
 enum-known-why c = search needs
@@ -23,10 +23,10 @@ slice-aggregate-mark-subtree : tie.Need-slice-aggregate-mark-subtree
 slice-aggregate-mark-subtree c = search needs
 
 mark-subtree-requires : tie.Need-mark-subtree-requires
-mark-subtree-requires c κs = search needs
+mark-subtree-requires c κs = tt
 
 at-most-requires : tie.Need-at-most-requires
-at-most-requires c κs = search needs
+at-most-requires c κs = tt
 
 sub-any-active : tie.Need-sub-any-active
 sub-any-active c = search needs
@@ -38,7 +38,7 @@ part-any-active-end : tie.Need-part-any-active-end
 part-any-active-end c = search needs
 
 any-active-requires : tie.Need-any-active-requires
-any-active-requires c κs = search needs
+any-active-requires c κs = tt
 
 same-length : tie.Need-same-length
 same-length c = refl
@@ -92,7 +92,7 @@ part-remove-listed-end : tie.Need-part-remove-listed-end
 part-remove-listed-end c = search needs
 
 remove-listed-requires : tie.Need-remove-listed-requires
-remove-listed-requires c κs = search needs
+remove-listed-requires c κs = tt
 
 same-length-12 : tie.Need-same-length-12
 same-length-12 c = refl

@@ -1,17 +1,16 @@
 -- Freed, then the heads.
 use mathlib.Core.Path.{_∙_}
-use borrow.Author.Needs.{needs}
 use Rattle.remove_call.proofs.remove_listed.Statement.{statement}
 use Rattle.remove_call.proofs.remove_listed.Tie as tie
 
 word-at-requires : tie.Need-word-at-requires
-word-at-requires c κs = search needs
+word-at-requires c κs = tt
 
 free-all-requires : tie.Need-free-all-requires
-free-all-requires c κs = search needs
+free-all-requires c κs = tt
 
 on-blocks-deleted-requires : tie.Need-on-blocks-deleted-requires
-on-blocks-deleted-requires c κs = search needs
+on-blocks-deleted-requires c κs = tt
 
 same-length : tie.Need-same-length
 same-length c = c .before .before .before .before .before .before .before .before .before .before .before .before .before .before .before .before .before .before .before .before .before .before .before .before .before .before .before .before .before .before .before .before .before .before .before .before .free-all .kept .0

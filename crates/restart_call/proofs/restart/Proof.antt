@@ -5,12 +5,11 @@ use borrow.Author.Tests.{not-true, not-false}
 use Rattle.rules.specs.Records.{tablesOf}
 use Rattle.rules.specs.Calls.{shaped, restart}
 use Rattle.restart_call.proofs.Restarted.{restart-done}
-use borrow.Author.Needs.{needs}
 use Rattle.restart_call.proofs.restart.Statement.{statement}
 use Rattle.restart_call.proofs.restart.Tie as tie
 
 is-shaped-requires : tie.Need-is-shaped-requires
-is-shaped-requires c κs = search needs
+is-shaped-requires c κs = tt
 
 same-length : tie.Need-same-length
 same-length c = refl
@@ -53,13 +52,13 @@ returns c =
     (rw e, rw e)
 
 empty-heads-requires : tie.Need-empty-heads-requires
-empty-heads-requires c κs = search needs
+empty-heads-requires c κs = tt
 
 recompute-head-ref-counts-requires : tie.Need-recompute-head-ref-counts-requires
-recompute-head-ref-counts-requires c κs = search needs
+recompute-head-ref-counts-requires c κs = tt
 
 rebuild-from-blocks-requires : tie.Need-rebuild-from-blocks-requires
-rebuild-from-blocks-requires c κs = search needs
+rebuild-from-blocks-requires c κs = tt
 
 same-length-12 : tie.Need-same-length-12
 same-length-12 c = c .before .before .before .before .before .before .before .before .before .before .before .before .before .before .before .before .before .before .before .before .before .before .rebuild-from-blocks .kept .0

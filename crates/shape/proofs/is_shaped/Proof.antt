@@ -5,7 +5,6 @@ use borrow.Author.Tests.{le-leb, lt-leb, not-true, not-false}
 use lib.ListN.{length}
 use Rattle.rules.specs.Records.{blocksOf}
 use Rattle.rules.specs.Calls.{blocksFit, shaped}
-use borrow.Author.Needs.{needs}
 use Rattle.shape.proofs.is_shaped.Statement.{statement}
 use Rattle.shape.proofs.is_shaped.Tie as tie
 
@@ -32,7 +31,7 @@ returns-4 c =
     rw (le-leb 1 (length (p .parents .now)) (c .before .before .before .if1 .left), le-leb (length (p .parents .now)) 1024 (c .before .before .if2 .left), le-leb 2 (length (p .tips .now)) (c .before .if3 .left), lt-leb (length (p .tips .now)) 64 (c .if4 .taken))
 
 blocks-fit-requires : tie.Need-blocks-fit-requires
-blocks-fit-requires c κs = search needs
+blocks-fit-requires c κs = tt
 
 returns-5 : tie.Need-returns-5
 unfolding shaped
@@ -42,7 +41,7 @@ returns-5 c =
     rw (le-leb 1 (length (p .parents .now)) (c .before .before .before .before .before .if1 .left), le-leb (length (p .parents .now)) 1024 (c .before .before .before .before .if2 .left), le-leb 2 (length (p .tips .now)) (c .before .before .before .if3 .left), le-leb (length (p .tips .now)) 64 (c .before .before .if4 .left), e)
 
 heads-fit-requires : tie.Need-heads-fit-requires
-heads-fit-requires c κs = search needs
+heads-fit-requires c κs = tt
 
 returns-6 : tie.Need-returns-6
 unfolding shaped

@@ -1,5 +1,4 @@
 -- Each test as the rule has it.
-use borrow.Author.Needs.{needs}
 use mathlib.Core.Path.{_≡_, sym, _∙_}
 use mathlib.Core.Bool.{true, false}
 use borrow.Author.Tests.{eq-eqb, ne-eqb, not-true, not-false}
@@ -13,14 +12,14 @@ unfolding above
 returns c = rw (eq-eqb _ _ (c .if1 .taken))
 
 byte-at-requires : tie.Need-byte-at-requires
-byte-at-requires c κs = search needs
+byte-at-requires c κs = tt
 
 returns-2 : tie.Need-returns-2
 unfolding above
 returns-2 c = rw (ne-eqb _ _ (c .before .before .if1 .left), ne-eqb _ _ (λ q. c .if2 .taken (c .before .byte-at .ensures ∙ q)))
 
 is-occupied-requires : tie.Need-is-occupied-requires
-is-occupied-requires c κs = search needs
+is-occupied-requires c κs = tt
 
 returns-3 : tie.Need-returns-3
 unfolding above
@@ -30,7 +29,7 @@ returns-3 c =
     rw (ne-eqb _ _ (b .before .if1 .left), eq-eqb _ _ (sym (b .byte-at .ensures) ∙ c .before .before .if2 .left), o)
 
 word-at-requires : tie.Need-word-at-requires
-word-at-requires c κs = search needs
+word-at-requires c κs = tt
 
 returns-4 : tie.Need-returns-4
 unfolding above

@@ -1,5 +1,4 @@
 -- What is left of the list decides.
-use borrow.Author.Needs.{needs}
 use native.Mathlib.Omega.{arith}
 use Prim.Native.Nat.{_≤_, _-_}
 use mathlib.Core.Path.{_≡_, refl, sym, _∙_}
@@ -25,7 +24,7 @@ shared-slice-read-t8 : tie.Need-shared-slice-read-t8 Inv-loop μ-loop
 shared-slice-read-t8 c = omega arith
 
 is-on-active-chain-requires : tie.Need-is-on-active-chain-requires Inv-loop μ-loop
-is-on-active-chain-requires c κs = search needs
+is-on-active-chain-requires c κs = tt
 
 returns : tie.Need-returns Inv-loop μ-loop
 returns c =

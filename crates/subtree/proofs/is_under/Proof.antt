@@ -1,15 +1,18 @@
--- Occupied, and the walk reaches the root; what the walk told is remembered.
+-- Occupied, and the walk reaches the root; what is told is remembered.
 use borrow.Author.Needs.{needs}
+use native.Mathlib.Omega.{arith}
 use mathlib.Core.Path.{_≡_, sym, _∙_}
 use mathlib.Core.Bool.{true, false}
 use borrow.Author.Tests.{not-true, not-false}
-use Rattle.rules.specs.Records.{occupied}
-use Rattle.rules.specs.BlockTable.{inSubtree}
+use lib.Dec.{eqb}
+use Rattle.rules.specs.Records.{slotsOf, occupied}
+use Rattle.rules.specs.BlockTable.{reaches, inSubtree}
+use Rattle.subtree.proofs.Known.{small-parents, at-once-told, remembered}
 use Rattle.subtree.proofs.is_under.Statement.{statement}
 use Rattle.subtree.proofs.is_under.Tie as tie
 
 is-occupied-requires : tie.Need-is-occupied-requires
-is-occupied-requires c κs = search needs
+is-occupied-requires c κs = tt
 
 returns : tie.Need-returns
 unfolding inSubtree
@@ -18,19 +21,41 @@ returns c r l =
     let o : occupied (a .sequences .now) (a .slot .0) ≡ false = sym (c .before .is-occupied .ensures) ∙ not-true (c .before .is-occupied .result) (c .if1 .taken) in
     (rw o, r)
 
-verdict-requires : tie.Need-verdict-requires
-verdict-requires c κs = search needs
+told-at-once-requires : tie.Need-told-at-once-requires
+told-at-once-requires c κs = tt
 
-remember-requires : tie.Need-remember-requires
-remember-requires c κs = search needs
+put-byte-requires : tie.Need-put-byte-requires
+put-byte-requires c κs = tt
 
 same-length : tie.Need-same-length
 same-length c = search needs
 
 returns-2 : tie.Need-returns-2
-unfolding inSubtree
+unfolding inSubtree slotsOf
 returns-2 c r l =
-    let b = c .before .before .before .before .before .before in
+    let t = c .before .before .before .before .before .told-at-once in
+    let b = c .before .before .before .before .before .before .before in
+    let a = b .before .before .before .before .before .args in
+    let small = small-parents (a .parents .now) (λ i. omega (arith, b .before .before .before .before .shared-slice-known .given i)) in
+    let o : occupied (a .sequences .now) (a .slot .0) ≡ true = sym (b .before .is-occupied .ensures) ∙ not-false (b .before .is-occupied .result) (b .if1 .left) in
+    let e : reaches (a .parents .now) (a .sequences .now) (a .root .0) (slotsOf (a .sequences .now)) (a .slot .0) ≡ eqb (t .result) 1 =
+    rw (t .ensures) (at-once-told (a .parents .now) (a .sequences .now) (a .root .0) (a .known .now) small r (a .slot .0) (omega arith) (omega arith) o
+    (λ q. c .before .before .before .before .if2 .taken (t .ensures ∙ q))) in
+    (rw o (sym e), rw (c .before .before .put-byte .ensures) (remembered _ _ _ (a .known .now) (a .slot .0) _ r e))
+
+verdict-requires : tie.Need-verdict-requires
+verdict-requires c κs = tt
+
+remember-requires : tie.Need-remember-requires
+remember-requires c κs = tt
+
+same-length-2 : tie.Need-same-length-2
+same-length-2 c = search needs
+
+returns-3 : tie.Need-returns-3
+unfolding inSubtree
+returns-3 c r l =
+    let b = c .before .before .before .before .before .before .before .before .before in
     let a = b .before .before .before .before .before .args in
     let o : occupied (a .sequences .now) (a .slot .0) ≡ true = sym (b .before .is-occupied .ensures) ∙ not-false (b .before .is-occupied .result) (b .if1 .left) in
     let e = c .before .before .before .before .verdict .ensures r l in
@@ -42,7 +67,11 @@ is-under-spec =
     (tie.spec
     is-occupied-requires
     returns
+    told-at-once-requires
+    put-byte-requires
+    same-length
+    returns-2
     verdict-requires
     remember-requires
-    same-length
-    returns-2)
+    same-length-2
+    returns-3)

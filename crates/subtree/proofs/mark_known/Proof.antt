@@ -1,10 +1,9 @@
 -- The slots before `i` of the subtree are listed, and what is remembered is right.
-use borrow.Author.Needs.{needs}
 use native.Mathlib.Omega.{arith}
-use Prim.Native.Nat.{ℕ, _≤_, _<_, _-_, _+_}
-use mathlib.Core.Path.{_≡_, refl, sym, _∙_, ap}
+use Prim.Native.Nat.{_≤_, _<_, _-_, _+_}
+use mathlib.Core.Path.{_≡_, refl, sym, _∙_}
 use mathlib.Core.Logic.{⊎-elim}
-use mathlib.Core.List.{List, [], _∷_, _++_}
+use mathlib.Core.List.{[], _∷_, _++_}
 use native.Mathlib.Nat.{zero-add}
 use lib.ListN.{length, length-append}
 use lib.Seq.{sets}
@@ -28,16 +27,16 @@ abbrev μ-loop : tie.MeasureT-loop
 μ-loop parents sequences root known₀ out₀ n count₀ i₀ known out count i = n - i
 
 slots-requires : tie.Need-slots-requires Inv-loop μ-loop
-slots-requires c κs = search needs
+slots-requires c κs = tt
 
 loop-holds : tie.Need-loop-holds Inv-loop μ-loop
 loop-holds c = (omega arith, (omega arith, (refl, (refl, λ r. (r, (rw all-none, rw all-none))))))
 
 is-under-requires : tie.Need-is-under-requires Inv-loop μ-loop
-is-under-requires c κs = search needs
+is-under-requires c κs = tt
 
 put-word-requires : tie.Need-put-word-requires Inv-loop μ-loop
-put-word-requires c κs = search needs
+put-word-requires c κs = tt
 
 add-count : tie.Need-add-count Inv-loop μ-loop
 add-count c = omega arith

@@ -10,7 +10,7 @@ use Rattle.subtree.proofs.mark_subtree.Statement.{statement}
 use Rattle.subtree.proofs.mark_subtree.Tie as tie
 
 is-occupied-requires : tie.Need-is-occupied-requires
-is-occupied-requires c κs = search needs
+is-occupied-requires c κs = tt
 
 returns : tie.Need-returns
 unfolding markSubtree
@@ -23,7 +23,7 @@ slice-aggregate-mark-known : tie.Need-slice-aggregate-mark-known
 slice-aggregate-mark-known c = search needs
 
 mark-known-requires : tie.Need-mark-known-requires
-mark-known-requires c κs = search needs
+mark-known-requires c κs = tt
 
 same-length : tie.Need-same-length
 same-length c = search needs

@@ -1,5 +1,4 @@
 -- Each test as the rule has it.
-use borrow.Author.Needs.{needs}
 use mathlib.Core.Path.{sym, _∙_}
 use borrow.Author.Tests.{eq-eqb, ne-eqb}
 use Rattle.subtree.specs.Known.{told}
@@ -11,7 +10,7 @@ unfolding told
 returns c = rw (eq-eqb _ _ (c .if1 .taken))
 
 byte-at-requires : tie.Need-byte-at-requires
-byte-at-requires c κs = search needs
+byte-at-requires c κs = tt
 
 returns-2 : tie.Need-returns-2
 unfolding told

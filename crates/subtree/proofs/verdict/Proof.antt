@@ -1,5 +1,4 @@
 -- What is left to try from the present slot decides, and where something is known the present slot tells as much as the first.
-use borrow.Author.Needs.{needs}
 use native.Mathlib.Omega.{arith}
 use Prim.Native.Nat.{ℕ, suc, _≤_, _<_, _-_, _+_}
 use native.Mathlib.Nat.{sub-zero}
@@ -23,17 +22,17 @@ abbrev μ-loop : tie.MeasureT-loop
 μ-loop parents sequences root known n current₀ tries₀ current tries = n - tries
 
 slots-requires : tie.Need-slots-requires Inv-loop μ-loop
-slots-requires c κs = search needs
+slots-requires c κs = tt
 
 loop-holds : tie.Need-loop-holds Inv-loop μ-loop
 unfolding slotsOf
 loop-holds c = (omega arith, (rw sub-zero, λ r l. (omega arith, refl)))
 
 above-requires : tie.Need-above-requires Inv-loop μ-loop
-above-requires c κs = search needs
+above-requires c κs = tt
 
 told-at-requires : tie.Need-told-at-requires Inv-loop μ-loop
-told-at-requires c κs = search needs
+told-at-requires c κs = tt
 
 returns : tie.Need-returns Inv-loop μ-loop
 returns c r l =

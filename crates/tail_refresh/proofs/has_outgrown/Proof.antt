@@ -1,15 +1,14 @@
 -- The tests in turn.
-use mathlib.Core.Path.{_≡_, refl, sym, ap, _∙_}
+use mathlib.Core.Path.{_≡_, sym, _∙_}
 use mathlib.Core.Bool.{true, false}
-use borrow.Author.Tests.{eq-eqb, ne-eqb, not-true, not-false}
+use borrow.Author.Tests.{not-true, not-false}
 use Rattle.rules.specs.Records.{stored, occupied}
 use Rattle.rules.specs.Admission.{outgrown}
-use borrow.Author.Needs.{needs}
 use Rattle.tail_refresh.proofs.has_outgrown.Statement.{statement}
 use Rattle.tail_refresh.proofs.has_outgrown.Tie as tie
 
 is-stored-requires : tie.Need-is-stored-requires
-is-stored-requires c κs = search needs
+is-stored-requires c κs = tt
 
 returns : tie.Need-returns
 unfolding outgrown
@@ -18,10 +17,10 @@ returns c =
     rw e
 
 word-at-requires : tie.Need-word-at-requires
-word-at-requires c κs = search needs
+word-at-requires c κs = tt
 
 is-occupied-requires : tie.Need-is-occupied-requires
-is-occupied-requires c κs = search needs
+is-occupied-requires c κs = tt
 
 returns-2 : tie.Need-returns-2
 unfolding outgrown
@@ -31,7 +30,7 @@ returns-2 c =
     rw (e, ← c .before .before .word-at .ensures, o)
 
 word-at-requires-2 : tie.Need-word-at-requires-2
-word-at-requires-2 c κs = search needs
+word-at-requires-2 c κs = tt
 
 returns-3 : tie.Need-returns-3
 unfolding outgrown

@@ -1,21 +1,19 @@
 -- By whether its tail has got a parent.
-use mathlib.Core.Path.{_≡_, refl, sym, ap, _∙_}
+use mathlib.Core.Path.{_≡_, refl, sym, _∙_}
 use mathlib.Core.Bool.{true, false}
-use borrow.Author.Tests.{eq-eqb, ne-eqb, not-true, not-false}
 use Rattle.rules.specs.Records.{blocksOf, headsOf}
 use Rattle.rules.specs.Admission.{outgrown, refreshOutgrown}
-use borrow.Author.Needs.{needs}
 use Rattle.tail_refresh.proofs.refresh_outgrown.Statement.{statement}
 use Rattle.tail_refresh.proofs.refresh_outgrown.Tie as tie
 
 has-outgrown-requires : tie.Need-has-outgrown-requires
-has-outgrown-requires c κs = search needs
+has-outgrown-requires c κs = tt
 
 word-at-requires : tie.Need-word-at-requires
-word-at-requires c κs = search needs
+word-at-requires c κs = tt
 
 refresh-head-requires : tie.Need-refresh-head-requires
-refresh-head-requires c κs = search needs
+refresh-head-requires c κs = tt
 
 same-length : tie.Need-same-length
 same-length c = c .before .before .before .before .before .before .before .before .refresh-head .kept .1 .1 .1 .1 .0
@@ -36,16 +34,16 @@ returns c =
     rw (e, ← c .before .before .before .before .before .before .before .before .before .before .before .before .before .word-at .ensures, ← c .before .before .before .before .before .before .before .before .refresh-head .ensures)
 
 same-length-5 : tie.Need-same-length-5
-same-length-5 c = search needs
+same-length-5 c = refl
 
 same-length-6 : tie.Need-same-length-6
-same-length-6 c = search needs
+same-length-6 c = refl
 
 same-length-7 : tie.Need-same-length-7
-same-length-7 c = search needs
+same-length-7 c = refl
 
 same-length-8 : tie.Need-same-length-8
-same-length-8 c = search needs
+same-length-8 c = refl
 
 returns-2 : tie.Need-returns-2
 unfolding refreshOutgrown

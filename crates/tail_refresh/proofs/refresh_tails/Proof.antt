@@ -1,8 +1,7 @@
 -- The heads before `k` are done.
-use borrow.Author.Needs.{needs}
 use native.Mathlib.Omega.{arith}
-use Prim.Native.Nat.{ℕ, _≤_, _-_, _+_}
-use mathlib.Core.Path.{_≡_, refl, sym, ap, _∙_}
+use Prim.Native.Nat.{_≤_, _-_}
+use mathlib.Core.Path.{_≡_, refl, sym, _∙_}
 use lib.ListN.{length}
 use Rattle.rules.specs.Common.{inOrder}
 use Rattle.rules.specs.Records.{blocksOf, headsOf}
@@ -19,13 +18,13 @@ abbrev μ-loop : tie.MeasureT-loop
 μ-loop hashes parents sequences counts flags tips tails₀ missing₀ requested₀ arrivals connected₀ m k₀ tails missing requested connected k = m - k
 
 slots-requires : tie.Need-slots-requires Inv-loop μ-loop
-slots-requires c κs = search needs
+slots-requires c κs = tt
 
 loop-holds : tie.Need-loop-holds Inv-loop μ-loop
 loop-holds c = (omega arith, ((refl, (refl, (refl, refl))), sym (in-order-none _ _)))
 
 refresh-outgrown-requires : tie.Need-refresh-outgrown-requires Inv-loop μ-loop
-refresh-outgrown-requires c κs = search needs
+refresh-outgrown-requires c κs = tt
 
 add-k : tie.Need-add-k Inv-loop μ-loop
 add-k c = omega (arith, c .before .before .before .before .before .before .before .before .before .before .before .before .before .loop-test .taken, c .before .before .before .before .before .before .before .before .before .before .before .before .before .before .before .slots .ok)

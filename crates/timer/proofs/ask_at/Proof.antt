@@ -6,7 +6,6 @@ use mathlib.Core.Bool.{true, false}
 use borrow.Author.Tests.{not-true, not-false}
 use Rattle.rules.specs.Records.{occupied, tailAt, sequenceAt}
 use Rattle.rules.specs.Timer.{Ask, claimed, askAt}
-use borrow.Author.Needs.{needs}
 use Rattle.timer.proofs.ask_at.Statement.{statement}
 use Rattle.timer.proofs.ask_at.Tie as tie
 
@@ -14,10 +13,10 @@ abbrev asking : ℕ → ℕ → Option Ask
 asking head claims = some (record { head = head; claims = claims })
 
 word-at-requires : tie.Need-word-at-requires
-word-at-requires c κs = search needs
+word-at-requires c κs = tt
 
 is-occupied-requires : tie.Need-is-occupied-requires
-is-occupied-requires c κs = search needs
+is-occupied-requires c κs = tt
 
 returns : tie.Need-returns
 unfolding askAt
@@ -27,10 +26,10 @@ returns c =
     rw e
 
 word-at-requires-2 : tie.Need-word-at-requires-2
-word-at-requires-2 c κs = search needs
+word-at-requires-2 c κs = tt
 
 claimed-requires : tie.Need-claimed-requires
-claimed-requires c κs = search needs
+claimed-requires c κs = tt
 
 returns-2 : tie.Need-returns-2
 unfolding askAt

@@ -5,7 +5,7 @@ use Rattle.timer.proofs.mark_requested.Statement.{statement}
 use Rattle.timer.proofs.mark_requested.Tie as tie
 
 put-time-requires : tie.Need-put-time-requires
-put-time-requires c κs = search needs
+put-time-requires c κs = tt
 
 same-length : tie.Need-same-length
 same-length c = search needs

@@ -7,7 +7,7 @@ use Rattle.timer.proofs.select_parent_recovery.Statement.{statement}
 use Rattle.timer.proofs.select_parent_recovery.Tie as tie
 
 chosen-requires : tie.Need-chosen-requires
-chosen-requires c κs = search needs
+chosen-requires c κs = tt
 
 enum-known-found : tie.Need-enum-known-found
 enum-known-found c = search needs
@@ -22,7 +22,7 @@ returns c =
     rw (f, recovery)
 
 ask-at-requires : tie.Need-ask-at-requires
-ask-at-requires c κs = search needs
+ask-at-requires c κs = tt
 
 returns-2 : tie.Need-returns-2
 unfolding recovery

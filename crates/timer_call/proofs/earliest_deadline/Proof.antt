@@ -12,7 +12,7 @@ use Rattle.timer_call.proofs.earliest_deadline.Statement.{statement}
 use Rattle.timer_call.proofs.earliest_deadline.Tie as tie
 
 is-shaped-requires : tie.Need-is-shaped-requires
-is-shaped-requires c κs = search needs
+is-shaped-requires c κs = tt
 
 returns : tie.Need-returns
 unfolding earliestDeadline
@@ -22,10 +22,10 @@ returns c =
     λ a. rw e
 
 ticks-requires : tie.Need-ticks-requires
-ticks-requires c κs = search needs
+ticks-requires c κs = tt
 
 earliest-recovery-deadline-requires : tie.Need-earliest-recovery-deadline-requires
-earliest-recovery-deadline-requires c κs = search needs
+earliest-recovery-deadline-requires c κs = tt
 
 enum-known-time : tie.Need-enum-known-time
 enum-known-time c = search needs

@@ -12,10 +12,10 @@ use Rattle.timer_call.proofs.timer.Statement.{statement}
 use Rattle.timer_call.proofs.timer.Tie as tie
 
 is-shaped-requires : tie.Need-is-shaped-requires
-is-shaped-requires c κs = search needs
+is-shaped-requires c κs = tt
 
 nothing-requires : tie.Need-nothing-requires
-nothing-requires c κs = search needs
+nothing-requires c κs = tt
 
 same-length : tie.Need-same-length
 same-length c = refl
@@ -28,25 +28,25 @@ returns c =
     λ a. (rw (c .nothing .ensures .0, e), rw e)
 
 ticks-requires : tie.Need-ticks-requires
-ticks-requires c κs = search needs
+ticks-requires c κs = tt
 
 select-parent-recovery-requires : tie.Need-select-parent-recovery-requires
-select-parent-recovery-requires c κs = search needs
+select-parent-recovery-requires c κs = tt
 
 enum-told : tie.Need-enum-told
 enum-told c = search needs
 
 nothing-requires-2 : tie.Need-nothing-requires-2
-nothing-requires-2 c κs = search needs
+nothing-requires-2 c κs = tt
 
 enum-known-head : tie.Need-enum-known-head
 enum-known-head c = search needs
 
 hash-at-requires : tie.Need-hash-at-requires
-hash-at-requires c κs = search needs
+hash-at-requires c κs = tt
 
 mark-requested-requires : tie.Need-mark-requested-requires
-mark-requested-requires c κs = search needs
+mark-requested-requires c κs = tt
 
 same-length-2 : tie.Need-same-length-2
 same-length-2 c = refl

@@ -1,4 +1,4 @@
-use mathlib.Core.Path.{_≡_, sym, ap, _∙_}
+use mathlib.Core.Path.{sym, ap}
 use Rattle.probe.specs.Numbers.{askNumber}
 use Rattle.rules.specs.Answers.{askChosen}
 use borrow.Author.Needs.{needs}

@@ -1,17 +1,17 @@
-use mathlib.Core.Path.{_≡_, refl, sym, ap, _∙_}
+use mathlib.Core.Path.{refl, sym, ap, _∙_}
 use Rattle.rules.specs.Answers.{deadlineGot}
 use borrow.Author.Needs.{needs}
 use Rattle.probe.proofs.recover.probe_earliest_recovery_deadline.Statement.{statement}
 use Rattle.probe.proofs.recover.probe_earliest_recovery_deadline.Tie as tie
 
 earliest-recovery-deadline-requires : tie.Need-earliest-recovery-deadline-requires
-earliest-recovery-deadline-requires c κs = search needs
+earliest-recovery-deadline-requires c κs = tt
 
 enum-known-time : tie.Need-enum-known-time
 enum-known-time c = search needs
 
 put-time-requires : tie.Need-put-time-requires
-put-time-requires c κs = search needs
+put-time-requires c κs = tt
 
 enum-told : tie.Need-enum-told
 enum-told c = search needs

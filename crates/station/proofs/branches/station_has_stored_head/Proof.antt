@@ -1,14 +1,13 @@
 use mathlib.Core.Path.{ap, _∙_}
 use Rattle.as_numbers.specs.Numbers.{yes}
-use borrow.Author.Needs.{needs}
 use Rattle.station.proofs.branches.station_has_stored_head.Statement.{statement}
 use Rattle.station.proofs.branches.station_has_stored_head.Tie as tie
 
 has-stored-head-requires : tie.Need-has-stored-head-requires
-has-stored-head-requires c κs = search needs
+has-stored-head-requires c κs = tt
 
 said-requires : tie.Need-said-requires
-said-requires c κs = search needs
+said-requires c κs = tt
 
 returns : tie.Need-returns
 returns c = c .said .ensures ∙ ap yes (c .before .has-stored-head .ensures)

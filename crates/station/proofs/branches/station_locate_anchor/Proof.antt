@@ -1,14 +1,13 @@
 use mathlib.Core.Path.{ap, _∙_}
 use Rattle.as_numbers.specs.Numbers.{anchorNumber}
-use borrow.Author.Needs.{needs}
 use Rattle.station.proofs.branches.station_locate_anchor.Statement.{statement}
 use Rattle.station.proofs.branches.station_locate_anchor.Tie as tie
 
 locate-anchor-requires : tie.Need-locate-anchor-requires
-locate-anchor-requires c κs = search needs
+locate-anchor-requires c κs = tt
 
 anchored-requires : tie.Need-anchored-requires
-anchored-requires c κs = search needs
+anchored-requires c κs = tt
 
 returns : tie.Need-returns
 returns c = c .anchored .ensures ∙ ap anchorNumber (c .before .locate-anchor .ensures)

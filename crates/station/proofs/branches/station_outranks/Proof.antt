@@ -1,20 +1,19 @@
 use mathlib.Core.Path.{ap, _∙_}
 use Rattle.as_numbers.specs.Numbers.{yes}
-use borrow.Author.Needs.{needs}
 use Rattle.station.proofs.branches.station_outranks.Statement.{statement}
 use Rattle.station.proofs.branches.station_outranks.Tie as tie
 
 hash-at-requires : tie.Need-hash-at-requires
-hash-at-requires c κs = search needs
+hash-at-requires c κs = tt
 
 hash-at-requires-2 : tie.Need-hash-at-requires-2
-hash-at-requires-2 c κs = search needs
+hash-at-requires-2 c κs = tt
 
 outranks-requires : tie.Need-outranks-requires
-outranks-requires c κs = search needs
+outranks-requires c κs = tt
 
 said-requires : tie.Need-said-requires
-said-requires c κs = search needs
+said-requires c κs = tt
 
 returns : tie.Need-returns
 returns c = c .said .ensures ∙ ap yes (c .before .outranks .ensures) ∙ rw (c .before .before .before .hash-at .ensures, c .before .before .hash-at2 .ensures)

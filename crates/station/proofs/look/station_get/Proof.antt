@@ -1,17 +1,16 @@
-use mathlib.Core.Path.{_≡_, refl, sym, ap, _∙_}
-use mathlib.Core.Option.{Option, none, some}
+use mathlib.Core.Path.{_≡_, refl}
+use mathlib.Core.Option.{none, some}
 use Rattle.rules.specs.Records.{blocksOf}
 use Rattle.rules.specs.BlockTable.{get}
-use Rattle.rules.specs.declared.Block.{Block}
 use borrow.Author.Needs.{needs}
 use Rattle.station.proofs.look.station_get.Statement.{statement}
 use Rattle.station.proofs.look.station_get.Tie as tie
 
 get-requires : tie.Need-get-requires
-get-requires c κs = search needs
+get-requires c κs = tt
 
 put-hash-requires : tie.Need-put-hash-requires
-put-hash-requires c κs = search needs
+put-hash-requires c κs = tt
 
 cast-put-words : tie.Need-cast-put-words
 cast-put-words c = search needs
@@ -20,7 +19,7 @@ cast-put-words-2 : tie.Need-cast-put-words-2
 cast-put-words-2 c = search needs
 
 put-words-requires : tie.Need-put-words-requires
-put-words-requires c κs = search needs
+put-words-requires c κs = tt
 
 same-length : tie.Need-same-length
 same-length c = search needs

@@ -1,14 +1,13 @@
 use mathlib.Core.Path.{ap, _∙_}
 use Rattle.as_numbers.specs.Numbers.{orNone}
-use borrow.Author.Needs.{needs}
 use Rattle.station.proofs.look.station_head_ref_count.Statement.{statement}
 use Rattle.station.proofs.look.station_head_ref_count.Tie as tie
 
 head-ref-count-requires : tie.Need-head-ref-count-requires
-head-ref-count-requires c κs = search needs
+head-ref-count-requires c κs = tt
 
 counted-requires : tie.Need-counted-requires
-counted-requires c κs = search needs
+counted-requires c κs = tt
 
 returns : tie.Need-returns
 returns c = c .counted .ensures ∙ ap orNone (c .before .head-ref-count .ensures)

@@ -1,14 +1,13 @@
 use mathlib.Core.Path.{ap, _∙_}
 use Rattle.as_numbers.specs.Numbers.{orNone}
-use borrow.Author.Needs.{needs}
 use Rattle.station.proofs.look.station_status.Statement.{statement}
 use Rattle.station.proofs.look.station_status.Tie as tie
 
 status-requires : tie.Need-status-requires
-status-requires c κs = search needs
+status-requires c κs = tt
 
 status-found-requires : tie.Need-status-found-requires
-status-found-requires c κs = search needs
+status-found-requires c κs = tt
 
 returns : tie.Need-returns
 returns c = c .status-found .ensures ∙ ap orNone (c .before .status .ensures)

@@ -1,16 +1,14 @@
-use mathlib.Core.Path.{_≡_, ap, _∙_}
+use mathlib.Core.Path.{ap, _∙_}
 use Rattle.call_numbers.specs.Numbers.{answerNumber}
 use borrow.Author.Needs.{needs}
 use Rattle.station.proofs.record.promote_kept.Statement.{statement}
 use Rattle.station.proofs.record.promote_kept.Tie as tie
-use Rattle.station.proofs.record.promote_kept.Reads as reads
-use Rattle.station.proofs.record.promote_kept.Lts as lts
 
 promote-at-requires : tie.Need-promote-at-requires
-promote-at-requires c κs = search needs
+promote-at-requires c κs = tt
 
 outcome-number-requires : tie.Need-outcome-number-requires
-outcome-number-requires c κs = search needs
+outcome-number-requires c κs = tt
 
 same-length : tie.Need-same-length
 same-length c = search needs

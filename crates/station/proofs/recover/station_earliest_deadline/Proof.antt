@@ -1,19 +1,17 @@
-use mathlib.Core.Path.{_≡_, ap, _∙_}
+use mathlib.Core.Path.{ap, _∙_}
 use Rattle.call_numbers.specs.Numbers.{answerNumber, timeTo}
 use borrow.Author.Needs.{needs}
 use Rattle.station.proofs.recover.station_earliest_deadline.Statement.{statement}
 use Rattle.station.proofs.recover.station_earliest_deadline.Tie as tie
-use Rattle.station.proofs.recover.station_earliest_deadline.Reads as reads
-use Rattle.station.proofs.recover.station_earliest_deadline.Lts as lts
 
 span-from-requires : tie.Need-span-from-requires
-span-from-requires c κs = search needs
+span-from-requires c κs = tt
 
 earliest-deadline-requires : tie.Need-earliest-deadline-requires
-earliest-deadline-requires c κs = search needs
+earliest-deadline-requires c κs = tt
 
 deadline-number-requires : tie.Need-deadline-number-requires
-deadline-number-requires c κs = search needs
+deadline-number-requires c κs = tt
 
 same-length : tie.Need-same-length
 same-length c = search needs

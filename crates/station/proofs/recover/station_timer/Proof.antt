@@ -1,19 +1,17 @@
-use mathlib.Core.Path.{_≡_, ap, _∙_}
+use mathlib.Core.Path.{ap, _∙_}
 use Rattle.call_numbers.specs.Numbers.{answerNumber, claimedTo, wantedTo}
 use borrow.Author.Needs.{needs}
 use Rattle.station.proofs.recover.station_timer.Statement.{statement}
 use Rattle.station.proofs.recover.station_timer.Tie as tie
-use Rattle.station.proofs.recover.station_timer.Reads as reads
-use Rattle.station.proofs.recover.station_timer.Lts as lts
 
 span-from-requires : tie.Need-span-from-requires
-span-from-requires c κs = search needs
+span-from-requires c κs = tt
 
 timer-requires : tie.Need-timer-requires
-timer-requires c κs = search needs
+timer-requires c κs = tt
 
 timed-number-requires : tie.Need-timed-number-requires
-timed-number-requires c κs = search needs
+timed-number-requires c κs = tt
 
 same-length : tie.Need-same-length
 same-length c = search needs

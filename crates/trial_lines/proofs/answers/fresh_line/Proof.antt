@@ -1,6 +1,6 @@
 -- By the answer.
 use native.Mathlib.Omega.{arith}
-use mathlib.Core.Path.{_≡_, refl}
+use mathlib.Core.Path.{refl}
 use borrow.Author.Needs.{needs}
 use Rattle.trial_lines.proofs.answers.fresh_line.Statement.{statement}
 use Rattle.trial_lines.proofs.answers.fresh_line.Tie as tie
@@ -12,10 +12,10 @@ enum-known-answer : tie.Need-enum-known-answer
 enum-known-answer c = search needs
 
 refusal-number-requires : tie.Need-refusal-number-requires
-refusal-number-requires c κs = search needs
+refusal-number-requires c κs = tt
 
 number-line-requires : tie.Need-number-line-requires
-number-line-requires c κs = search needs
+number-line-requires c κs = tt
 
 returns : tie.Need-returns
 returns c = rw (c .enum-told .given .1) ((refl, omega arith))

@@ -1,7 +1,7 @@
 -- No space stands before `i`.
 use native.Mathlib.Omega.{arith}
 use Prim.Native.Nat.{_≤_, _-_, _+_}
-use mathlib.Core.Path.{_≡_, refl, sym, _∙_}
+use mathlib.Core.Path.{_≡_}
 use lib.ListN.{length, drop}
 use Rattle.trial_lines.specs.Reading.{fieldLength}
 use Rattle.trial_lines.proofs.Bytes.{field-goes, field-stops, field-end}

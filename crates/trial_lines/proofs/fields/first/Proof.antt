@@ -10,7 +10,7 @@ use Rattle.trial_lines.proofs.fields.first.Statement.{statement}
 use Rattle.trial_lines.proofs.fields.first.Tie as tie
 
 field-length-requires : tie.Need-field-length-requires
-field-length-requires c κs = search needs
+field-length-requires c κs = tt
 
 sub-result : tie.Need-sub-result
 sub-result c = search needs

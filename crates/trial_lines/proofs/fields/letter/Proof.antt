@@ -2,15 +2,14 @@
 use mathlib.Core.Path.{_≡_, sym, _∙_}
 use borrow.Author.Tests.{eq-eqb, ne-eqb}
 use Rattle.trial_lines.specs.Reading.{fieldLength}
-use borrow.Author.Needs.{needs}
 use Rattle.trial_lines.proofs.fields.letter.Statement.{statement}
 use Rattle.trial_lines.proofs.fields.letter.Tie as tie
 
 field-length-requires : tie.Need-field-length-requires
-field-length-requires c κs = search needs
+field-length-requires c κs = tt
 
 byte-at-requires : tie.Need-byte-at-requires
-byte-at-requires c κs = search needs
+byte-at-requires c κs = tt
 
 returns : tie.Need-returns
 returns c =

@@ -2,7 +2,7 @@
 use native.Mathlib.Omega.{arith}
 use mathlib.Core.Path.{_≡_, ap, sym, _∙_}
 use Prim.Native.Nat.{ℕ, suc, _+_, _-_}
-use lib.ListN.{length, take, drop, drop-of-length-le, length-drop}
+use lib.ListN.{length, drop, drop-of-length-le, length-drop}
 use lib.Seq.{take-all}
 use Rattle.trial_lines.specs.Reading.{fieldLength}
 use borrow.Author.Needs.{needs}
@@ -10,7 +10,7 @@ use Rattle.trial_lines.proofs.fields.rest.Statement.{statement}
 use Rattle.trial_lines.proofs.fields.rest.Tie as tie
 
 field-length-requires : tie.Need-field-length-requires
-field-length-requires c κs = search needs
+field-length-requires c κs = tt
 
 add-start : tie.Need-add-start
 add-start c = search needs

@@ -7,16 +7,16 @@ use Rattle.trial_lines.proofs.lines.none_due_line.Statement.{statement}
 use Rattle.trial_lines.proofs.lines.none_due_line.Tie as tie
 
 put-requires : tie.Need-put-requires
-put-requires c κs = search needs
+put-requires c κs = tt
 
 put-requires-2 : tie.Need-put-requires-2
-put-requires-2 c κs = search needs
+put-requires-2 c κs = tt
 
 put-requires-3 : tie.Need-put-requires-3
-put-requires-3 c κs = search needs
+put-requires-3 c κs = tt
 
 put-requires-4 : tie.Need-put-requires-4
-put-requires-4 c κs = search needs
+put-requires-4 c κs = tt
 
 same-length : tie.Need-same-length
 same-length c = search needs

@@ -1,6 +1,6 @@
 -- A tenth of the most decides whether the product fits.
 use native.Mathlib.Omega.{arith}
-use mathlib.Core.Path.{_≡_, sym, _∙_}
+use mathlib.Core.Path.{sym, _∙_}
 use borrow.Author.Tests.{lt-leb, le-leb}
 use Prim.Native.Nat.{_+_, _*_, _-_}
 use Rattle.rules.proofs.Splits.{less?}

@@ -11,7 +11,7 @@ use Rattle.trial_lines.proofs.numbers.hex_digit.Statement.{statement}
 use Rattle.trial_lines.proofs.numbers.hex_digit.Tie as tie
 
 is-digit-requires : tie.Need-is-digit-requires
-is-digit-requires c κs = search needs
+is-digit-requires c κs = tt
 
 sub-t3 : tie.Need-sub-t3
 sub-t3 c =

@@ -1,7 +1,7 @@
 -- Two digits below 16.
 use native.Mathlib.Omega.{arith}
 use mathlib.Core.Path.{_≡_, sym, ap, _∙_}
-use mathlib.Core.Option.{Option, none, some}
+use mathlib.Core.Option.{none, some}
 use lib.ListN.{getD}
 use borrow.Author.Tests.{eq-eqb, ne-eqb}
 use Rattle.trial_lines.specs.Reading.{hexDigit, hashByte}
@@ -16,10 +16,10 @@ unfolding hashByte
 returns c = rw (ne-eqb _ 2 (c .if1 .taken))
 
 byte-at-requires : tie.Need-byte-at-requires
-byte-at-requires c κs = search needs
+byte-at-requires c κs = tt
 
 hex-digit-requires : tie.Need-hex-digit-requires
-hex-digit-requires c κs = search needs
+hex-digit-requires c κs = tt
 
 enum-known-high : tie.Need-enum-known-high
 enum-known-high c = search needs
@@ -35,10 +35,10 @@ returns-2 c =
     rw (eq-eqb _ 2 (c .before .before .before .before .if1 .left), h)
 
 byte-at-requires-2 : tie.Need-byte-at-requires-2
-byte-at-requires-2 c κs = search needs
+byte-at-requires-2 c κs = tt
 
 hex-digit-requires-2 : tie.Need-hex-digit-requires-2
-hex-digit-requires-2 c κs = search needs
+hex-digit-requires-2 c κs = tt
 
 enum-known-low : tie.Need-enum-known-low
 enum-known-low c = search needs

@@ -1,9 +1,8 @@
 -- The bytes before `i` are digits, and `n` is their value.
-use borrow.Author.Needs.{needs}
 use native.Mathlib.Omega.{arith}
-use Prim.Native.Nat.{_<_, _≤_, _-_, _+_, _*_}
+use Prim.Native.Nat.{_≤_, _-_, _+_, _*_}
 use mathlib.Core.Bool.{true, false}
-use mathlib.Core.Path.{_≡_, refl, sym, ap, _∙_}
+use mathlib.Core.Path.{_≡_, refl, sym, _∙_}
 use borrow.Author.Tests.{not-true, not-false, leb-false, leb-true}
 use lib.ListN.{length, getD, drop}
 use Rattle.trial_lines.specs.Reading.{isDigit, allDigits, valueFrom}
@@ -27,7 +26,7 @@ shared-slice-read-byte : tie.Need-shared-slice-read-byte Inv-loop μ-loop
 shared-slice-read-byte c = omega arith
 
 is-digit-requires : tie.Need-is-digit-requires Inv-loop μ-loop
-is-digit-requires c κs = search needs
+is-digit-requires c κs = tt
 
 returns-2 : tie.Need-returns-2 Inv-loop μ-loop
 returns-2 c =
@@ -37,10 +36,10 @@ returns-2 c =
     sym (number-not (c .before .before .before .before .before .before .before .args .most) b (l .inv .1 .1 .0 ∙ digits-stop b (l .i) (omega arith) d))
 
 value-requires : tie.Need-value-requires Inv-loop μ-loop
-value-requires c κs = search needs
+value-requires c κs = tt
 
 fits-requires : tie.Need-fits-requires Inv-loop μ-loop
-fits-requires c κs = search needs
+fits-requires c κs = tt
 
 returns-3 : tie.Need-returns-3 Inv-loop μ-loop
 returns-3 c =

@@ -1,8 +1,7 @@
 -- What is read fits.
 use native.Mathlib.Omega.{arith}
-use mathlib.Core.Path.{_≡_, sym, ap, _∙_}
-use mathlib.Core.Option.{Option, none, some}
-use Rattle.trial_lines.specs.Reading.{number, wordMost}
+use mathlib.Core.Path.{sym, ap, _∙_}
+use Rattle.trial_lines.specs.Reading.{wordMost}
 use Rattle.trial_lines.specs.Answers.{timeRead}
 use Rattle.trial_lines.proofs.Bytes.{number-fits}
 use borrow.Author.Needs.{needs}
@@ -10,7 +9,7 @@ use Rattle.trial_lines.proofs.numbers.read_word.Statement.{statement}
 use Rattle.trial_lines.proofs.numbers.read_word.Tie as tie
 
 read-number-requires : tie.Need-read-number-requires
-read-number-requires c κs = search needs
+read-number-requires c κs = tt
 
 enum-known-n : tie.Need-enum-known-n
 enum-known-n c = search needs

@@ -1,7 +1,7 @@
 -- Field by field.
 use mathlib.Core.Path.{_≡_, sym, ap, _∙_}
 use mathlib.Core.List.{List}
-use mathlib.Core.Option.{Option, none, some}
+use mathlib.Core.Option.{none, some}
 use Prim.Native.Nat.{ℕ}
 use denote.Ref.{now}
 use Rattle.trial_lines.specs.Reading.{first, rest, number, hashByte, wordMost, timeMost, admitOf}
@@ -11,16 +11,16 @@ use Rattle.trial_lines.proofs.read.read_admit.Statement.{statement}
 use Rattle.trial_lines.proofs.read.read_admit.Tie as tie
 
 rest-requires : tie.Need-rest-requires
-rest-requires c κs = search needs
+rest-requires c κs = tt
 
 rest-requires-2 : tie.Need-rest-requires-2
-rest-requires-2 c κs = search needs
+rest-requires-2 c κs = tt
 
 first-requires : tie.Need-first-requires
-first-requires c κs = search needs
+first-requires c κs = tt
 
 read-word-requires : tie.Need-read-word-requires
-read-word-requires c κs = search needs
+read-word-requires c κs = tt
 
 enum-known-sequence : tie.Need-enum-known-sequence
 enum-known-sequence c = search needs
@@ -36,10 +36,10 @@ returns c =
     rw s
 
 first-requires-2 : tie.Need-first-requires-2
-first-requires-2 c κs = search needs
+first-requires-2 c κs = tt
 
 read-hash-requires : tie.Need-read-hash-requires
-read-hash-requires c κs = search needs
+read-hash-requires c κs = tt
 
 enum-known-hash : tie.Need-enum-known-hash
 enum-known-hash c = search needs
@@ -56,10 +56,10 @@ returns-2 c =
     rw (s, h)
 
 first-requires-3 : tie.Need-first-requires-3
-first-requires-3 c κs = search needs
+first-requires-3 c κs = tt
 
 read-hash-requires-2 : tie.Need-read-hash-requires-2
-read-hash-requires-2 c κs = search needs
+read-hash-requires-2 c κs = tt
 
 enum-known-previous : tie.Need-enum-known-previous
 enum-known-previous c = search needs
@@ -78,10 +78,10 @@ returns-3 c =
     rw (s, h, p)
 
 rest-requires-3 : tie.Need-rest-requires-3
-rest-requires-3 c κs = search needs
+rest-requires-3 c κs = tt
 
 read-time-requires : tie.Need-read-time-requires
-read-time-requires c κs = search needs
+read-time-requires c κs = tt
 
 enum-known-arrival : tie.Need-enum-known-arrival
 enum-known-arrival c = search needs

@@ -1,6 +1,6 @@
 -- Field by field.
 use mathlib.Core.Path.{_≡_, sym, ap, _∙_}
-use mathlib.Core.Option.{Option, none, some}
+use mathlib.Core.Option.{none, some}
 use Rattle.trial_lines.specs.Reading.{first, rest, number, wordMost, freshOf}
 use Rattle.trial_lines.specs.Answers.{wordRead}
 use borrow.Author.Needs.{needs}
@@ -8,10 +8,10 @@ use Rattle.trial_lines.proofs.read.read_fresh.Statement.{statement}
 use Rattle.trial_lines.proofs.read.read_fresh.Tie as tie
 
 first-requires : tie.Need-first-requires
-first-requires c κs = search needs
+first-requires c κs = tt
 
 read-word-requires : tie.Need-read-word-requires
-read-word-requires c κs = search needs
+read-word-requires c κs = tt
 
 enum-known-n : tie.Need-enum-known-n
 enum-known-n c = search needs
@@ -26,10 +26,10 @@ returns c =
     rw n
 
 rest-requires : tie.Need-rest-requires
-rest-requires c κs = search needs
+rest-requires c κs = tt
 
 read-word-requires-2 : tie.Need-read-word-requires-2
-read-word-requires-2 c κs = search needs
+read-word-requires-2 c κs = tt
 
 enum-known-m : tie.Need-enum-known-m
 enum-known-m c = search needs

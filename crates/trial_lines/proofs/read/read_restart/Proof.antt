@@ -1,6 +1,6 @@
 -- One field.
 use mathlib.Core.Path.{_≡_, sym, ap, _∙_}
-use mathlib.Core.Option.{Option, none, some}
+use mathlib.Core.Option.{none, some}
 use Rattle.trial_lines.specs.Reading.{number, timeMost, restartOf}
 use Rattle.trial_lines.specs.Answers.{timeRead}
 use borrow.Author.Needs.{needs}
@@ -8,7 +8,7 @@ use Rattle.trial_lines.proofs.read.read_restart.Statement.{statement}
 use Rattle.trial_lines.proofs.read.read_restart.Tie as tie
 
 read-time-requires : tie.Need-read-time-requires
-read-time-requires c κs = search needs
+read-time-requires c κs = tt
 
 enum-known-clock : tie.Need-enum-known-clock
 enum-known-clock c = search needs

@@ -1,6 +1,6 @@
 -- Field by field.
 use mathlib.Core.Path.{_≡_, sym, ap, _∙_}
-use mathlib.Core.Option.{Option, none, some}
+use mathlib.Core.Option.{none, some}
 use Rattle.trial_lines.specs.Reading.{first, rest, number, timeMost, timerOf}
 use Rattle.trial_lines.specs.Answers.{timeRead}
 use borrow.Author.Needs.{needs}
@@ -8,10 +8,10 @@ use Rattle.trial_lines.proofs.read.read_timer.Statement.{statement}
 use Rattle.trial_lines.proofs.read.read_timer.Tie as tie
 
 first-requires : tie.Need-first-requires
-first-requires c κs = search needs
+first-requires c κs = tt
 
 read-time-requires : tie.Need-read-time-requires
-read-time-requires c κs = search needs
+read-time-requires c κs = tt
 
 enum-known-clock : tie.Need-enum-known-clock
 enum-known-clock c = search needs
@@ -26,10 +26,10 @@ returns c =
     rw n
 
 rest-requires : tie.Need-rest-requires
-rest-requires c κs = search needs
+rest-requires c κs = tt
 
 read-time-requires-2 : tie.Need-read-time-requires-2
-read-time-requires-2 c κs = search needs
+read-time-requires-2 c κs = tt
 
 enum-known-retry : tie.Need-enum-known-retry
 enum-known-retry c = search needs

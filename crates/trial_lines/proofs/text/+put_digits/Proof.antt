@@ -1,7 +1,6 @@
 -- The digits before the last, then the last.
 use native.Mathlib.Omega.{arith}
-use mathlib.Core.List.{[], _∷_, _++_}
-use mathlib.Core.Path.{_≡_, refl}
+use mathlib.Core.List.{[], _∷_}
 use Prim.Native.Nat.{_-_, _/_}
 use Rattle.trial_lines.specs.Writing.{digit, digitsIn}
 use Rattle.trial_lines.proofs.Places.{put-none, put-then, digits-none, digits-last, digits-next}

@@ -1,5 +1,5 @@
 -- The space, then the digits.
-use mathlib.Core.List.{[], _∷_, _++_}
+use mathlib.Core.List.{[], _∷_}
 use Rattle.trial_lines.specs.Writing.{field, digits}
 use Rattle.trial_lines.proofs.Places.{put-then}
 use borrow.Author.Needs.{needs}
@@ -7,10 +7,10 @@ use Rattle.trial_lines.proofs.text.put_field.Statement.{statement}
 use Rattle.trial_lines.proofs.text.put_field.Tie as tie
 
 put-requires : tie.Need-put-requires
-put-requires c κs = search needs
+put-requires c κs = tt
 
 put-number-requires : tie.Need-put-number-requires
-put-number-requires c κs = search needs
+put-number-requires c κs = tt
 
 same-length : tie.Need-same-length
 same-length c = search needs

@@ -1,6 +1,6 @@
 -- The high digit, then the low one.
 use Prim.Native.Nat.{_/_, _%_}
-use mathlib.Core.List.{[], _∷_, _++_}
+use mathlib.Core.List.{[], _∷_}
 use Rattle.trial_lines.specs.Writing.{hex, hexChar}
 use Rattle.trial_lines.proofs.Places.{put-then}
 use borrow.Author.Needs.{needs}
@@ -8,16 +8,16 @@ use Rattle.trial_lines.proofs.text.put_hex.Statement.{statement}
 use Rattle.trial_lines.proofs.text.put_hex.Tie as tie
 
 hex-char-requires : tie.Need-hex-char-requires
-hex-char-requires c κs = search needs
+hex-char-requires c κs = tt
 
 put-requires : tie.Need-put-requires
-put-requires c κs = search needs
+put-requires c κs = tt
 
 hex-char-requires-2 : tie.Need-hex-char-requires-2
-hex-char-requires-2 c κs = search needs
+hex-char-requires-2 c κs = tt
 
 put-requires-2 : tie.Need-put-requires-2
-put-requires-2 c κs = search needs
+put-requires-2 c κs = tt
 
 same-length : tie.Need-same-length
 same-length c = search needs

@@ -5,7 +5,7 @@ use Rattle.trial_lines.proofs.text.put_number.Statement.{statement}
 use Rattle.trial_lines.proofs.text.put_number.Tie as tie
 
 put-digits-requires : tie.Need-put-digits-requires
-put-digits-requires c κs = search needs
+put-digits-requires c κs = tt
 
 same-length : tie.Need-same-length
 same-length c = search needs

@@ -1,6 +1,5 @@
 -- NONE_REF is a dash.
-use mathlib.Core.List.{[], _∷_, _++_}
-use mathlib.Core.Path.{_≡_, refl}
+use mathlib.Core.List.{[], _∷_}
 use borrow.Author.Tests.{eq-eqb, ne-eqb}
 use Rattle.rules.specs.Records.{NONE}
 use Rattle.trial_lines.specs.Writing.{reference}
@@ -10,10 +9,10 @@ use Rattle.trial_lines.proofs.text.put_reference.Statement.{statement}
 use Rattle.trial_lines.proofs.text.put_reference.Tie as tie
 
 put-requires : tie.Need-put-requires
-put-requires c κs = search needs
+put-requires c κs = tt
 
 put-requires-2 : tie.Need-put-requires-2
-put-requires-2 c κs = search needs
+put-requires-2 c κs = tt
 
 same-length : tie.Need-same-length
 same-length c = search needs
@@ -26,7 +25,7 @@ returns c =
     (put-then (a .out .now) (c .before .before .before .before .before .before .put .last .0) (c .before .before .put2 .last .0) (32 ∷ []) (45 ∷ []) (a .at) (c .before .before .before .before .before .before .put .result) (c .before .before .put2 .result) (c .before .before .before .before .before .before .put .ensures) (c .before .before .put2 .ensures))
 
 put-field-requires : tie.Need-put-field-requires
-put-field-requires c κs = search needs
+put-field-requires c κs = tt
 
 same-length-2 : tie.Need-same-length-2
 same-length-2 c = search needs

@@ -1,0 +1,87 @@
+-- What is left to visit from the present block decides.
+use native.Mathlib.Omega.{arith}
+use Prim.Native.Nat.{ℕ, suc, _≤_, _-_, _+_}
+use native.Mathlib.Nat.{sub-zero}
+use mathlib.Core.Path.{_≡_, sym, _∙_}
+use borrow.Author.Tests.{not-true, not-false}
+use Rattle.rules.specs.Anchor.{anchorFrom, locateAnchor}
+use Rattle.rules.proofs.Walks.{anchor-spent, anchor-empty, anchor-active, anchor-root, anchor-up}
+use Rattle.anchor.proofs.locate_by_total_reads.Statement.{statement}
+use Rattle.anchor.proofs.locate_by_total_reads.Tie as tie
+
+abbrev Inv-loop : tie.InvT-loop
+Inv-loop parents sequences flags n current₀ last₀ visits₀ current last visits = (visits ≤ n) × (anchorFrom parents sequences flags n last₀ current₀ ≡ anchorFrom parents sequences flags (n - visits) last current)
+
+abbrev μ-loop : tie.MeasureT-loop
+μ-loop parents sequences flags n current₀ last₀ visits₀ current last visits = n - visits
+
+slots-requires : tie.Need-slots-requires Inv-loop μ-loop
+slots-requires c κs = tt
+
+loop-holds : tie.Need-loop-holds Inv-loop μ-loop
+loop-holds c = (omega arith, rw sub-zero)
+
+is-occupied-requires : tie.Need-is-occupied-requires Inv-loop μ-loop
+is-occupied-requires c κs = tt
+
+returns : tie.Need-returns Inv-loop μ-loop
+unfolding locateAnchor
+returns c =
+    rw (← c .before .before .before .before .slots .ensures) (sym (c .before .before .before .loop .inv .1 ∙ anchor-empty _ _ _ (c .before .before .before .before .slots .result - c .before .before .before .loop .visits) (c .before .before .before .loop .last) (c .before .before .before .loop .current) (omega arith)
+    (sym (c .before .is-occupied .ensures) ∙ not-true (c .before .is-occupied .result) (c .if1 .taken))))
+
+is-on-active-chain-requires : tie.Need-is-on-active-chain-requires Inv-loop μ-loop
+is-on-active-chain-requires c κs = tt
+
+returns-2 : tie.Need-returns-2 Inv-loop μ-loop
+unfolding locateAnchor
+returns-2 c =
+    rw (← c .before .before .before .before .before .before .slots .ensures) (sym (c .before .before .before .before .before .loop .inv .1 ∙ anchor-active _ _ _ (c .before .before .before .before .before .before .slots .result - c .before .before .before .before .before .loop .visits) (c .before .before .before .before .before .loop .last) (c .before .before .before .before .before .loop .current) (omega arith)
+    (sym (c .before .before .before .is-occupied .ensures) ∙ not-false (c .before .before .before .is-occupied .result) (c .before .before .if1 .left)) (sym (c .before .is-on-active-chain .ensures) ∙ c .if2 .taken)))
+
+word-at-requires : tie.Need-word-at-requires Inv-loop μ-loop
+word-at-requires c κs = tt
+
+returns-3 : tie.Need-returns-3 Inv-loop μ-loop
+unfolding locateAnchor
+returns-3 c =
+    rw (← c .before .before .before .before .before .before .before .before .slots .ensures) (sym (c .before .before .before .before .before .before .before .loop .inv .1 ∙ anchor-root _ _ _ (c .before .before .before .before .before .before .before .before .slots .result - c .before .before .before .before .before .before .before .loop .visits) (c .before .before .before .before .before .before .before .loop .last) (c .before .before .before .before .before .before .before .loop .current) (omega arith)
+    (sym (c .before .before .before .before .before .is-occupied .ensures) ∙ not-false (c .before .before .before .before .before .is-occupied .result) (c .before .before .before .before .if1 .left)) (sym (c .before .before .before .is-on-active-chain .ensures) ∙ c .before .before .if2 .left) (sym (c .before .word-at .ensures) ∙ c .if3 .taken)))
+
+add-visits : tie.Need-add-visits Inv-loop μ-loop
+add-visits c = omega arith
+
+loop-less : tie.Need-loop-less Inv-loop μ-loop
+loop-less c = omega arith
+
+loop-again : tie.Need-loop-again Inv-loop μ-loop
+loop-again c =
+    let k : ℕ = c .before .before .before .before .before .before .before .before .slots .result - (c .before .before .before .before .before .before .before .loop .visits + 1) in
+    let e : c .before .before .before .before .before .before .before .before .slots .result - c .before .before .before .before .before .before .before .loop .visits ≡ suc k = omega arith in (
+      omega arith,
+      c .before .before .before .before .before .before .before .loop .inv .1 ∙ rw (e, c .before .word-at .ensures) (anchor-up _ _ _ k (c .before .before .before .before .before .before .before .loop .last) (c .before .before .before .before .before .before .before .loop .current)
+          (sym (c .before .before .before .before .before .is-occupied .ensures) ∙ not-false (c .before .before .before .before .before .is-occupied .result) (c .before .before .before .before .if1 .left)) (sym (c .before .before .before .is-on-active-chain .ensures) ∙ c .before .before .if2 .left) (λ q. c .if3 .left (c .before .word-at .ensures ∙ q))),
+    )
+
+returns-4 : tie.Need-returns-4 Inv-loop μ-loop
+unfolding locateAnchor
+returns-4 c = rw (← c .before .before .slots .ensures) (sym (c .before .loop .inv .1 ∙ anchor-spent _ _ _ (c .before .before .slots .result - c .before .loop .visits) (c .before .loop .last) (c .before .loop .current) (omega arith)))
+
+pub locate-by-total-reads-spec : {M : Type 1} → statement M
+locate-by-total-reads-spec =
+    tie.close
+    (tie.spec
+    Inv-loop
+    μ-loop
+    slots-requires
+    loop-holds
+    is-occupied-requires
+    returns
+    is-on-active-chain-requires
+    returns-2
+    word-at-requires
+    returns-3
+    add-visits
+    loop-less
+    loop-again
+    returns-4)

@@ -15,10 +15,11 @@ pub struct Block {
 }
 
 #[derive(Debug, PartialEq, Eq)]
+#[repr(C)]
 pub struct Asked {
     pub head: u32,
-    pub missing: Hash,
     pub claimed: u32,
+    pub missing: Hash,
 }
 
 /// The original or the port, with its tables and the record.

@@ -93,7 +93,9 @@ pub enum Anchor {
 }
 
 /// A missing block to ask for.
+// In this order the hash is moved as a whole: nothing of another answer lies over its first byte.
 #[derive(Debug, Clone, Copy, PartialEq, Eq)]
+#[repr(C)]
 pub struct Request {
     /// The stored head that waits for it.
     pub head: HeadSlot,

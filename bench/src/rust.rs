@@ -113,20 +113,7 @@ impl<const N: usize, const M: usize> Side for Rust<N, M> {
     }
 
     fn show(&self) -> Parts {
-        let mut t = Parts {
-            hashes: vec![],
-            parents: vec![],
-            sequences: vec![],
-            counts: vec![],
-            flags: vec![],
-            tips: vec![],
-            tails: vec![],
-            missing: vec![],
-            requested: vec![],
-            arrivals: vec![],
-            connected: vec![],
-            active: self.active,
-        };
+        let mut t = Parts { active: self.active, ..Parts::default() };
         self.blocks.show(&mut t);
         self.heads.show(&mut t);
         t

@@ -40,6 +40,26 @@ pub struct Parts {
     pub active: u32,
 }
 
+/// No slots at all, and no active head: what every call refuses.
+impl Default for Parts {
+    fn default() -> Parts {
+        Parts {
+            hashes: vec![],
+            parents: vec![],
+            sequences: vec![],
+            counts: vec![],
+            flags: vec![],
+            tips: vec![],
+            tails: vec![],
+            missing: vec![],
+            requested: vec![],
+            arrivals: vec![],
+            connected: vec![],
+            active: NONE_REF,
+        }
+    }
+}
+
 /// A block tree and its heads.
 ///
 /// The tables own their memory and nothing but their calls writes it, so all that is proved holds of

@@ -1,7 +1,7 @@
 //! The trial's scripts in `examples/`, run on [`Tables`]: the answers and the tables at the end are
 //! those that the trial program prints. `unread` is about that program's lines alone.
 
-use station::{BlockSlot, Hash, NONE_REF, Parts, Refusal, Sequence, Tables};
+use station::{BlockSlot, Hash, Parts, Refusal, Sequence, Tables};
 use std::fmt::Display;
 use std::path::Path;
 use std::{env, fs};
@@ -23,7 +23,7 @@ fn the_scripts() {
 }
 
 fn printed(script: &str) -> String {
-    let mut tables = Tables::from_parts(nothing());
+    let mut tables = Tables::from_parts(Parts::default());
     let mut out = String::new();
     for line in script.lines() {
         match answer(&mut tables, line) {
@@ -70,24 +70,6 @@ fn answer(tables: &mut Tables, line: &str) -> Result<String, Refusal> {
         }
         _ => panic!("not a line: {line}"),
     })
-}
-
-/// Buffers that every call refuses, as before the first N.
-fn nothing() -> Parts {
-    Parts {
-        hashes: vec![],
-        parents: vec![],
-        sequences: vec![],
-        counts: vec![],
-        flags: vec![],
-        tips: vec![],
-        tails: vec![],
-        missing: vec![],
-        requested: vec![],
-        arrivals: vec![],
-        connected: vec![],
-        active: NONE_REF,
-    }
 }
 
 fn number<T: TryFrom<u64>>(word: &str) -> T {

@@ -4,25 +4,23 @@ use mathlib.Core.Logic.{_≢_}
 use mathlib.Core.Bool.{false, not}
 use mathlib.Core.List.{List}
 use mathlib.Core.Option.{none}
-use Prim.Native.Nat.{ℕ, _<_, _≤_}
+use Prim.Native.Nat.{ℕ}
 use native.Mathlib.Omega.{arith}
 use borrow.Author.Tests.{eq-eqb, ne-eqb}
 use lib.Dec.{eqb}
 use Rattle.rules.specs.Common.{lowest}
 use Rattle.rules.specs.Hashes.{hashAt, sameHash}
-use Rattle.rules.specs.Records.{NONE, slotsOf, sequenceAt, occupied}
+use Rattle.rules.specs.Records.{NONE, sequenceAt, occupied}
 use Rattle.rules.specs.BlockTable.{isBlock}
 use Rattle.rules.proofs.Splits.{split, same?}
 use Rattle.rules.proofs.Search.{lowest-none, lowest-skips}
-use Rattle.cells.specs.Places.{nextAt}
-use Rattle.cells.proofs.Places.{next-holds, next-first, next-few, next-after}
 
 pub free : (sequences : List ℕ) (i : ℕ) → not (occupied sequences i) ≡ eqb (sequenceAt sequences i) NONE
 unfolding occupied
 free sequences i = split (eqb (sequenceAt sequences i) NONE) (λ t. rw t) (λ f. rw f)
 
 module _ (hashes sequences : List ℕ) (sequence : ℕ) (hash : List ℕ) where
-  other : (i : ℕ) → sequenceAt sequences i ≢ sequence → isBlock hashes sequences sequence hash i ≡ false
+  pub other : (i : ℕ) → sequenceAt sequences i ≢ sequence → isBlock hashes sequences sequence hash i ≡ false
   unfolding isBlock
   other i ne = split (occupied sequences i)
       (λ t. rw (t, ne-eqb (sequenceAt sequences i) sequence ne))
@@ -39,19 +37,3 @@ module _ (hashes sequences : List ℕ) (sequence : ℕ) (hash : List ℕ) where
   -- an empty slot is no block
   pub none-found : (n : ℕ) → sequence ≡ NONE → lowest (isBlock hashes sequences sequence hash) n ≡ none
   none-found n e = lowest-skips _ 0 n (omega arith) (lowest-none _) (λ i a b. same? (sequenceAt sequences i) sequence (λ q. empty i (q ∙ e)) (other i))
-
-  -- nothing before i, and i has the sequence if it is a slot
-  abbrev pub Searched : ℕ → Type 0
-  Searched i =
-      (i ≤ slotsOf sequences) × ((lowest (isBlock hashes sequences sequence hash) i ≡ none) × (i < slotsOf sequences → sequenceAt sequences i ≡ sequence))
-
-  pub search-from : (from : ℕ) → from ≤ slotsOf sequences → lowest (isBlock hashes sequences sequence hash) from ≡ none → Searched (nextAt sequences from sequence)
-  search-from from l e =
-      let i = nextAt sequences from sequence in
-      let few = next-few sequences from sequence in (
-        few,
-        (
-          lowest-skips _ from i (next-after sequences from sequence l) e (λ j a b. other j (next-first sequences from sequence j a (omega arith) b)),
-          λ b. next-holds sequences from sequence b .1,
-        ),
-      )

@@ -12,7 +12,7 @@ use lib.ListN.{getD}
 use Rattle.rules.specs.Common.{lowest}
 use Rattle.rules.specs.Records.{NONE, slotsOf}
 use Rattle.rules.proofs.Splits.{split, same?, less?, option?, and-true, true-not-false}
-use Rattle.rules.proofs.Search.{lowest-none, lowest-skips, lowest-at, lowest-holds, lowest-misses, lowest-least}
+use Rattle.rules.proofs.Search.{lowest-none, lowest-skips, lowest-fewer, lowest-at, lowest-holds, lowest-misses, lowest-least}
 use Rattle.cells.specs.Places.{holdsFrom, nextAt}
 
 module _ (words : List ℕ) (from value : ℕ) where
@@ -90,16 +90,37 @@ module _ (words : List ℕ) (from value : ℕ) where
   pub next-after : from ≤ slotsOf words → from ≤ nextAt words from value
   next-after l = less? (nextAt words from value) (slotsOf words) (λ b. next-holds b .0) (λ b. omega arith)
 
--- a search from 0 by a test that says the same
+-- ---- a search by a test that no slot with another value passes
+
+module _ (words : List ℕ) (value : ℕ) (test : ℕ → Bool) where
+  -- nothing before i passes, and i has the value if it is a slot
+  abbrev pub Searched : ℕ → Type 0
+  Searched i = (i ≤ slotsOf words) × ((lowest test i ≡ none) × (i < slotsOf words → getD words i NONE ≡ value))
+
+  module _ (other : (j : ℕ) → getD words j NONE ≢ value → test j ≡ false) where
+    pub search-from : (from : ℕ) → from ≤ slotsOf words → lowest test from ≡ none → Searched (nextAt words from value)
+    search-from from l e =
+        let i = nextAt words from value in
+        let few = next-few words from value in (
+          few,
+          (
+            lowest-skips test from i (next-after words from value l) e (λ j a b. other j (next-first words from value j a (omega arith) b)),
+            λ b. next-holds words from value b .1,
+          ),
+        )
+
+    pub search-first : Searched (nextAt words 0 value)
+    search-first = search-from 0 (omega arith) (lowest-none test)
+
+-- a test that says no more than that the slot has the value
 module _ (words : List ℕ) (value : ℕ) (test : ℕ → Bool) (says : (j : ℕ) → test j ≡ eqb (getD words j NONE) value) where
-  fails-before : (n : ℕ) → n ≤ slotsOf words → n ≤ nextAt words 0 value → lowest test n ≡ none
-  fails-before n few l = lowest-skips test 0 n (omega arith) (lowest-none test)
-      (λ j a b. says j ∙ ne-eqb (getD words j NONE) value (next-first words 0 value j a (omega arith) (omega arith)))
+  first : Searched words value test (nextAt words 0 value)
+  first = search-first words value test (λ j ne. says j ∙ ne-eqb (getD words j NONE) value ne)
 
   pub lowest-there : nextAt words 0 value < slotsOf words → lowest test (slotsOf words) ≡ some (nextAt words 0 value)
   lowest-there l =
       let i = nextAt words 0 value in
-      lowest-at test i (slotsOf words) (fails-before i (omega arith) (omega arith)) (says i ∙ eq-eqb (getD words i NONE) value (next-holds words 0 value l .1)) l
+      lowest-at test i (slotsOf words) (first .1 .0) (says i ∙ eq-eqb (getD words i NONE) value (first .1 .1 l)) l
 
   pub lowest-nowhere : slotsOf words ≤ nextAt words 0 value → lowest test (slotsOf words) ≡ none
-  lowest-nowhere l = fails-before (slotsOf words) (omega arith) l
+  lowest-nowhere l = lowest-fewer test (slotsOf words) (nextAt words 0 value) l (first .1 .0)

@@ -132,7 +132,8 @@ pub fn hash_at(bytes: &[u8], at: u32) -> [u8; 32]
     hash
 }
 
-// A hash that the buffer's end may cut.
+// A hash that the buffer's end may cut. Callers lend a slice made for it: their own then stays in registers, which is what makes
+// them fast.
 fn padded_hash(bytes: &[u8], at: u32) -> [u8; 32]
     ensures { λ r. ⌜ r ≡ hashAt (now (bytes .entry)) at ⌝ }
 {

@@ -67,6 +67,9 @@ module _ (test : ℕ → Bool) where
       (λ f. same? i n (λ p. rw p f) (λ ne. lowest-misses n i q (omega arith))))
       (λ j q. some-not-none {o = lowest test (suc n)} {i = j} (lowest-stays n j q) e)
 
+  pub lowest-fewer : (n k : ℕ) → n ≤ k → lowest test k ≡ none → lowest test n ≡ none
+  lowest-fewer n k l e = lowest-skips 0 n (omega arith) lowest-none (λ j a b. lowest-misses k j e (omega arith))
+
   pub lowest-least : (n i j : ℕ) → lowest test n ≡ some i → j < i → test j ≡ false
   lowest-least zero i j e l = some-not-none {o = lowest test 0} {i = i} e lowest-none
   lowest-least (suc n) i j e l = option? (lowest test n)

@@ -3,15 +3,15 @@ use native.Mathlib.Omega.{arith}
 use Prim.Native.Nat.{_-_, _+_}
 use mathlib.Core.Path.{_≡_, sym, _∙_}
 use Rattle.rules.specs.Records.{slotsOf}
-use Rattle.rules.specs.BlockTable.{find}
-use Rattle.rules.proofs.Search.{lowest-none, lowest-next, lowest-at}
-use Rattle.cells.proofs.Places.{next-after}
-use Rattle.blocks.proofs.Found.{Searched, fits, none-found, search-from}
+use Rattle.rules.specs.BlockTable.{isBlock, find}
+use Rattle.rules.proofs.Search.{lowest-next, lowest-at}
+use Rattle.cells.proofs.Places.{next-after, Searched, search-from, search-first}
+use Rattle.blocks.proofs.Found.{other, fits, none-found}
 use Rattle.blocks.proofs.find.Statement.{statement}
 use Rattle.blocks.proofs.find.Tie as tie
 
 abbrev Inv-loop : tie.InvT-loop
-Inv-loop hashes sequences hash wanted n i₀ i = (n ≡ slotsOf sequences) × Searched hashes sequences wanted hash i
+Inv-loop hashes sequences hash wanted n i₀ i = (n ≡ slotsOf sequences) × Searched sequences wanted (isBlock hashes sequences wanted hash) i
 
 abbrev μ-loop : tie.MeasureT-loop
 μ-loop hashes sequences hash wanted n i₀ i = n - i
@@ -27,7 +27,7 @@ next-at-requires : tie.Need-next-at-requires Inv-loop μ-loop
 next-at-requires c κs = tt
 
 loop-holds : tie.Need-loop-holds Inv-loop μ-loop
-loop-holds c = (c .before .slots .ensures, rw (c .next-at .ensures) (search-from (c .before .before .before .before .before .args .hashes .now) (c .before .before .before .before .before .args .sequences .now) (c .before .before .before .before .before .args .sequence .0) (c .before .before .before .before .before .args .hash) 0 (omega arith) (lowest-none _)))
+loop-holds c = (c .before .slots .ensures, rw (c .next-at .ensures) (search-first (c .before .before .before .before .before .args .sequences .now) (c .before .before .before .before .before .args .sequence .0) _ (other (c .before .before .before .before .before .args .hashes .now) (c .before .before .before .before .before .args .sequences .now) (c .before .before .before .before .before .args .sequence .0) (c .before .before .before .before .before .args .hash))))
 
 same-hash-at-requires : tie.Need-same-hash-at-requires Inv-loop μ-loop
 same-hash-at-requires c κs = tt
@@ -46,7 +46,10 @@ loop-less : tie.Need-loop-less Inv-loop μ-loop
 loop-less c = omega (arith, c .before .before .before .before .before .before .slots .ensures, c .next-at2 .ensures, next-after (c .before .before .before .before .before .before .before .before .before .before .args .sequences .now) (c .before .before .before .before .loop .i + 1) (c .before .before .before .before .before .before .before .before .before .before .args .sequence .0) (omega (arith, c .before .before .before .before .before .before .slots .ensures)))
 
 loop-again : tie.Need-loop-again Inv-loop μ-loop
-loop-again c = (c .before .before .before .before .before .before .slots .ensures, rw (c .next-at2 .ensures) (search-from (c .before .before .before .before .before .before .before .before .before .before .args .hashes .now) (c .before .before .before .before .before .before .before .before .before .before .args .sequences .now) (c .before .before .before .before .before .before .before .before .before .before .args .sequence .0) (c .before .before .before .before .before .before .before .before .before .before .args .hash) (c .before .before .before .before .loop .i + 1) (omega (arith, c .before .before .before .before .before .before .slots .ensures)) (lowest-next _ (c .before .before .before .before .loop .i) (c .before .before .before .before .loop .inv .1 .1 .0) (fits (c .before .before .before .before .before .before .before .before .before .before .args .hashes .now) (c .before .before .before .before .before .before .before .before .before .before .args .sequences .now) (c .before .before .before .before .before .before .before .before .before .before .args .sequence .0) (c .before .before .before .before .before .before .before .before .before .before .args .hash) (c .before .before .before .before .loop .i) (c .before .before .before .before .before .before .before .if1 .left) (c .before .before .before .before .loop .inv .1 .1 .1 (omega (arith, c .before .before .before .before .before .before .slots .ensures))) ∙ sym (c .before .before .same-hash-at .ensures) ∙ c .before .if2 .left))))
+loop-again c =
+    let i = c .before .before .before .before .loop .i in
+    let same = fits (c .before .before .before .before .before .before .before .before .before .before .args .hashes .now) (c .before .before .before .before .before .before .before .before .before .before .args .sequences .now) (c .before .before .before .before .before .before .before .before .before .before .args .sequence .0) (c .before .before .before .before .before .before .before .before .before .before .args .hash) i (c .before .before .before .before .before .before .before .if1 .left) (c .before .before .before .before .loop .inv .1 .1 .1 (omega (arith, c .before .before .before .before .before .before .slots .ensures))) ∙ sym (c .before .before .same-hash-at .ensures) ∙ c .before .if2 .left in
+    (c .before .before .before .before .before .before .slots .ensures, rw (c .next-at2 .ensures) (search-from (c .before .before .before .before .before .before .before .before .before .before .args .sequences .now) (c .before .before .before .before .before .before .before .before .before .before .args .sequence .0) _ (other (c .before .before .before .before .before .before .before .before .before .before .args .hashes .now) (c .before .before .before .before .before .before .before .before .before .before .args .sequences .now) (c .before .before .before .before .before .before .before .before .before .before .args .sequence .0) (c .before .before .before .before .before .before .before .before .before .before .args .hash)) (i + 1) (omega (arith, c .before .before .before .before .before .before .slots .ensures)) (lowest-next _ i (c .before .before .before .before .loop .inv .1 .1 .0) same)))
 
 returns-3 : tie.Need-returns-3 Inv-loop μ-loop
 unfolding find

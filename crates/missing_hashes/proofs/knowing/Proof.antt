@@ -1,19 +1,19 @@
 -- `k` is the next head with this tail, and none before it waits there.
 use native.Mathlib.Omega.{arith}
-use Prim.Native.Nat.{_≤_, _-_, _+_}
+use Prim.Native.Nat.{_-_, _+_}
 use mathlib.Core.Path.{_≡_, sym, _∙_}
 use mathlib.Core.Option.{none, some}
 use Rattle.rules.specs.Common.{lowest}
 use Rattle.rules.specs.Records.{slotsOf}
 use Rattle.rules.specs.Caches.{waitsAt, knowing}
-use Rattle.rules.proofs.Search.{lowest-at}
-use Rattle.cells.proofs.Places.{next-after}
-use Rattle.missing_hashes.proofs.Waits.{Passed, waits-stored, passed-first, passed-next, passed-none}
+use Rattle.rules.proofs.Search.{lowest-next, lowest-fewer, lowest-at}
+use Rattle.cells.proofs.Places.{next-after, Searched, search-from, search-first}
+use Rattle.missing_hashes.proofs.Waits.{waits-elsewhere, waits-stored}
 use Rattle.missing_hashes.proofs.knowing.Statement.{statement}
 use Rattle.missing_hashes.proofs.knowing.Tie as tie
 
 abbrev Inv-loop : tie.InvT-loop
-Inv-loop tips tails connected tail head m k₀ k = Passed tips tails connected (tail .0) k
+Inv-loop tips tails connected tail head m k₀ k = Searched tails (tail .0) (waitsAt tips tails connected (tail .0)) k
 
 abbrev μ-loop : tie.MeasureT-loop
 μ-loop tips tails connected tail head m k₀ k = slotsOf tails - k
@@ -34,7 +34,7 @@ next-at-requires : tie.Need-next-at-requires Inv-loop μ-loop
 next-at-requires c κs = tt
 
 loop-holds : tie.Need-loop-holds Inv-loop μ-loop
-loop-holds c = rw (c .next-at .ensures) (passed-first (c .before .before .before .before .before .before .before .args .tips .now) (c .before .before .before .before .before .before .before .args .tails .now) (c .before .before .before .before .before .before .before .args .connected .now) (c .before .before .before .before .before .before .before .args .tail .0))
+loop-holds c = rw (c .next-at .ensures) (search-first (c .before .before .before .before .before .before .before .args .tails .now) (c .before .before .before .before .before .before .before .args .tail .0) _ (waits-elsewhere (c .before .before .before .before .before .before .before .args .tips .now) (c .before .before .before .before .before .before .before .args .tails .now) (c .before .before .before .before .before .before .before .args .connected .now) (c .before .before .before .before .before .before .before .args .tail .0)))
 
 is-stored-requires : tie.Need-is-stored-requires Inv-loop μ-loop
 is-stored-requires c κs = tt
@@ -44,7 +44,7 @@ unfolding knowing
 returns-2 c =
     let k = c .before .before .before .loop .k in
     let waits = waits-stored (c .before .before .before .before .before .before .before .before .before .before .before .args .tips .now) (c .before .before .before .before .before .before .before .before .before .before .before .args .tails .now) (c .before .before .before .before .before .before .before .before .before .before .before .args .connected .now) (c .before .before .before .before .before .before .before .before .before .before .before .args .tail .0) k (c .before .before .before .loop .inv .1 .1 (omega (arith, c .before .before .before .before .before .before .before .slots .ensures, c .before .before .before .before .before .before .slots2 .ensures))) ∙ sym (c .before .is-stored .ensures) ∙ c .if2 .taken in
-    let e : lowest (waitsAt (c .before .before .before .before .before .before .before .before .before .before .before .args .tips .now) (c .before .before .before .before .before .before .before .before .before .before .before .args .tails .now) (c .before .before .before .before .before .before .before .before .before .before .before .args .connected .now) (c .before .before .before .before .before .before .before .before .before .before .before .args .tail .0)) (slotsOf (c .before .before .before .before .before .before .before .before .before .before .before .args .tips .now)) ≡ some k = lowest-at _ k _ (passed-none (c .before .before .before .before .before .before .before .before .before .before .before .args .tips .now) (c .before .before .before .before .before .before .before .before .before .before .before .args .tails .now) (c .before .before .before .before .before .before .before .before .before .before .before .args .connected .now) (c .before .before .before .before .before .before .before .before .before .before .before .args .tail .0) k k (omega arith) (c .before .before .before .loop .inv)) waits (omega (arith, c .before .before .before .before .before .before .before .slots .ensures)) in
+    let e : lowest (waitsAt (c .before .before .before .before .before .before .before .before .before .before .before .args .tips .now) (c .before .before .before .before .before .before .before .before .before .before .before .args .tails .now) (c .before .before .before .before .before .before .before .before .before .before .before .args .connected .now) (c .before .before .before .before .before .before .before .before .before .before .before .args .tail .0)) (slotsOf (c .before .before .before .before .before .before .before .before .before .before .before .args .tips .now)) ≡ some k = lowest-at _ k _ (c .before .before .before .loop .inv .1 .0) waits (omega (arith, c .before .before .before .before .before .before .before .slots .ensures)) in
     rw (e, knowing)
 
 add-next-at : tie.Need-add-next-at Inv-loop μ-loop
@@ -60,12 +60,12 @@ loop-again : tie.Need-loop-again Inv-loop μ-loop
 loop-again c =
     let k = c .before .before .before .before .loop .k in
     let waits = waits-stored (c .before .before .before .before .before .before .before .before .before .before .before .before .args .tips .now) (c .before .before .before .before .before .before .before .before .before .before .before .before .args .tails .now) (c .before .before .before .before .before .before .before .before .before .before .before .before .args .connected .now) (c .before .before .before .before .before .before .before .before .before .before .before .before .args .tail .0) k (c .before .before .before .before .loop .inv .1 .1 (omega (arith, c .before .before .before .before .before .before .before .before .slots .ensures, c .before .before .before .before .before .before .before .slots2 .ensures))) ∙ sym (c .before .before .is-stored .ensures) ∙ c .before .if2 .left in
-    rw (c .next-at2 .ensures) (passed-next (c .before .before .before .before .before .before .before .before .before .before .before .before .args .tips .now) (c .before .before .before .before .before .before .before .before .before .before .before .before .args .tails .now) (c .before .before .before .before .before .before .before .before .before .before .before .before .args .connected .now) (c .before .before .before .before .before .before .before .before .before .before .before .before .args .tail .0) k (c .before .before .before .before .loop .inv) waits)
+    rw (c .next-at2 .ensures) (search-from (c .before .before .before .before .before .before .before .before .before .before .before .before .args .tails .now) (c .before .before .before .before .before .before .before .before .before .before .before .before .args .tail .0) _ (waits-elsewhere (c .before .before .before .before .before .before .before .before .before .before .before .before .args .tips .now) (c .before .before .before .before .before .before .before .before .before .before .before .before .args .tails .now) (c .before .before .before .before .before .before .before .before .before .before .before .before .args .connected .now) (c .before .before .before .before .before .before .before .before .before .before .before .before .args .tail .0)) (k + 1) (omega (arith, c .before .before .before .before .before .before .before .before .slots .ensures, c .before .before .before .before .before .before .before .slots2 .ensures)) (lowest-next _ k (c .before .before .before .before .loop .inv .1 .0) waits))
 
 returns-3 : tie.Need-returns-3 Inv-loop μ-loop
 unfolding knowing
 returns-3 c =
-    let e : lowest (waitsAt (c .before .before .before .before .before .before .before .before .before .args .tips .now) (c .before .before .before .before .before .before .before .before .before .args .tails .now) (c .before .before .before .before .before .before .before .before .before .args .connected .now) (c .before .before .before .before .before .before .before .before .before .args .tail .0)) (slotsOf (c .before .before .before .before .before .before .before .before .before .args .tips .now)) ≡ none = passed-none (c .before .before .before .before .before .before .before .before .before .args .tips .now) (c .before .before .before .before .before .before .before .before .before .args .tails .now) (c .before .before .before .before .before .before .before .before .before .args .connected .now) (c .before .before .before .before .before .before .before .before .before .args .tail .0) _ (c .before .loop .k) (omega (arith, c .before .before .before .before .before .slots .ensures)) (c .before .loop .inv) in
+    let e : lowest (waitsAt (c .before .before .before .before .before .before .before .before .before .args .tips .now) (c .before .before .before .before .before .before .before .before .before .args .tails .now) (c .before .before .before .before .before .before .before .before .before .args .connected .now) (c .before .before .before .before .before .before .before .before .before .args .tail .0)) (slotsOf (c .before .before .before .before .before .before .before .before .before .args .tips .now)) ≡ none = lowest-fewer _ _ (c .before .loop .k) (omega (arith, c .before .before .before .before .before .slots .ensures)) (c .before .loop .inv .1 .0) in
     rw (e, knowing)
 
 pub knowing-spec : {M : Type 1} → statement M

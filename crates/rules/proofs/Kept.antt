@@ -38,5 +38,7 @@ pub mod Went
 pub mod Steps
 pub mod PromoteStep
 pub mod AdmitStep
+pub mod Victims
+pub mod Inserts
 pub mod Lists
 pub mod Mended

@@ -1,21 +1,23 @@
--- Every refusal of a call is one of the paper's numbers, and a refused call leaves the state as it stood.
-use mathlib.Core.Path.{_≡_, refl}
+-- Every refusal is one of the paper's numbers, of fresh, restart, timer and deadline 1 alone, and a refused call leaves the
+-- state as it stood.
+use mathlib.Core.Path.{_≡_, refl, ap}
+use mathlib.Core.Logic.{_≢_}
 use mathlib.Core.Bool.{Bool, true, false, not, _&&_}
 use mathlib.Core.List.{List}
 use mathlib.Core.Option.{Option, none, some}
 use Prim.Native.Nat.{ℕ, _≤_}
 use native.Mathlib.Omega.{arith}
+use borrow.Author.Tests.{eqb-true, eqb-false}
 use lib.Dec.{eqb}
 use lib.ListN.{length}
-use Rattle.rules.specs.Common.{if_then_else_, isSome}
+use Rattle.rules.specs.Common.{if_then_else_}
 use Rattle.rules.specs.Hashes.{hashLength, zeroHash, hashAt, sameHash}
 use Rattle.rules.specs.Records.{NONE, occupied}
-use Rattle.rules.specs.BlockTable.{find, nextFree, markSubtree}
+use Rattle.rules.specs.BlockTable.{nextFree, markSubtree}
 use Rattle.rules.specs.Removal.{removed}
-use Rattle.rules.specs.Promotion.{promoted}
 use Rattle.rules.specs.Rebuild.{restarted}
-use Rattle.rules.specs.Timer.{Ask, spanOr, recovery}
-use Rattle.rules.specs.Answers.{Answer, refused, done, slot, freed, request, noneDue, lastRefusal}
+use Rattle.rules.specs.Timer.{Ask, spanOr, recovery, deadline}
+use Rattle.rules.specs.Answers.{Answer, refused, done, slot, freed, request, noneDue, dueAt, neverDue, lastRefusal}
 use Rattle.rules.specs.Calls.{
   State,
   Stepped,
@@ -30,136 +32,165 @@ use Rattle.rules.specs.Calls.{
   answering,
   keeping,
   shaped,
+  blocksIn,
+  headsIn,
+  freshState,
+  fresh,
+  known,
+  takesSlot,
   admit,
-  admitAt,
-  promote,
   isNext,
-  remove,
+  promotedTo,
+  promote,
   holdsActive,
+  remove,
   asked,
   timer,
+  earliestDeadline,
   restart,
 }
+use Rattle.rules.proofs.Splits.{split, option?, and-true, true-not-false}
 
--- if it refuses, then with one of the numbers, and with the state kept
-Ranged : State → Stepped → Type 0
-Ranged s after = (n : ℕ) → after .answer ≡ refused n → (1 ≤ n) × (n ≤ lastRefusal) × (after .after ≡ s)
+abbrev Numbered : ℕ → Type 0
+Numbered n = (1 ≤ n) × (n ≤ lastRefusal)
 
-refuses : (s : State) (k : ℕ) → 1 ≤ k → k ≤ lastRefusal → Ranged s (refuse s k)
-unfolding Ranged
-refuses s k low high n e = let q : k ≡ n = cc in (omega arith, omega arith, refl)
+abbrev First : ℕ → Type 0
+First n = n ≡ 1
 
-answers : (s u : State) (a : Answer) → ((n : ℕ) → a ≡ refused n → ⊥) → Ranged s (answering u a)
-unfolding Ranged
-answers s u a other n e = absurd (other n e)
+-- if it refuses, then with a number that it may meet, and with the state kept
+Refuses : (ℕ → Type 0) → State → Stepped → Type 0
+Refuses may s w = (n : ℕ) → w .answer ≡ refused n → may n × (w .after ≡ s)
 
-choice : (s : State) (b : Bool) (x y : Stepped) → Ranged s x → Ranged s y → Ranged s (if b then x else y)
-choice s true x y p q = p
-choice s false x y p q = q
+abbrev isRefusal : Answer → Bool
+isRefusal (refused number) = true
+isRefusal done = false
+isRefusal (slot i) = false
+isRefusal (freed blocks) = false
+isRefusal (request head claims missing) = false
+isRefusal noneDue = false
+isRefusal (dueAt time) = false
+isRefusal neverDue = false
 
-not-done : (n : ℕ) → done ≡ refused n → ⊥
-not-done n e = let z : _≡_ {A = ℕ} 0 1 = cc in omega arith
+module _ (may : ℕ → Type 0) (s : State) where
+  refuses : (k : ℕ) → may k → Refuses may s (refuse s k)
+  unfolding Refuses
+  refuses k m n e = let q : k ≡ n = cc in (rw (← q) m, refl)
 
-not-slot : (i n : ℕ) → slot i ≡ refused n → ⊥
-not-slot i n e = let z : _≡_ {A = ℕ} 0 1 = cc in omega arith
+  answers : (u : State) (a : Answer) → isRefusal a ≡ false → Refuses may s (answering u a)
+  unfolding Refuses
+  answers u a other n e = true-not-false {b = isRefusal a} (ap isRefusal e) other
 
-not-freed : (i n : ℕ) → freed i ≡ refused n → ⊥
-not-freed i n e = let z : _≡_ {A = ℕ} 0 1 = cc in omega arith
+  -- one refusal more before what else may come
+  next : (b : Bool) (k : ℕ) (y : Stepped) → may k → Refuses may s y → Refuses may s (if b then refuse s k else y)
+  next true k y m p = refuses k m
+  next false k y m p = p
 
-not-request : (h c : ℕ) (m : List ℕ) (n : ℕ) → request h c m ≡ refused n → ⊥
-not-request h c m n e = let z : _≡_ {A = ℕ} 0 1 = cc in omega arith
+-- ---- admit
 
-not-none : (n : ℕ) → noneDue ≡ refused n → ⊥
-not-none n e = let z : _≡_ {A = ℕ} 0 1 = cc in omega arith
+-- what admit has found before it writes
+pub record Free (s : State) (sequence : ℕ) (hash : List ℕ) (i : ℕ) : Type 0 where
+  pub len : length hash ≡ hashLength
+  pub real : sequence ≢ NONE
+  pub unknown : known s sequence hash ≡ false
+  pub next : nextFree (s .tables .blocks .sequences) ≡ some i
+
+module _ (s : State) (sequence : ℕ) (hash previous : List ℕ) (arrival : ℕ) where
+  -- refused, or put into the lowest empty slot
+  pub admit? {ℓ} : (P : Stepped → Type ℓ) → ((n : ℕ) → (1 ≤ n) × (n ≤ lastRefusal) → P (refuse s n))
+      → ((i : ℕ) → Free s sequence hash i → P (takesSlot s i sequence hash previous arrival))
+      → P (admit s sequence hash previous arrival)
+  unfolding admit
+  admit? P f g = split (shaped (s .tables))
+      (λ e1. split (eqb (length hash) hashLength && eqb (length previous) hashLength)
+      (λ e2. split (eqb sequence NONE)
+      (λ e4. rw (e1, e2, e4) (f 4 (omega arith, omega arith)))
+      (λ e4. split (sameHash hash zeroHash)
+      (λ e5. rw (e1, e2, e4, e5) (f 5 (omega arith, omega arith)))
+      (λ e5. split (known s sequence hash)
+      (λ e6. rw (e1, e2, e4, e5, e6) (f 6 (omega arith, omega arith)))
+      (λ e6. option? (nextFree (s .tables .blocks .sequences))
+      (λ e7. rw (e1, e2, e4, e5, e6, e7) (f 7 (omega arith, omega arith)))
+      (λ i e7. rw (e1, e2, e4, e5, e6, e7) (g i (record {
+        len = eqb-true (length hash) hashLength (and-true (eqb (length hash) hashLength) (eqb (length previous) hashLength) e2 .0);
+        real = eqb-false sequence NONE e4;
+        unknown = e6;
+        next = e7;
+      })))))))
+      (λ e2. rw (e1, e2) (f 2 (omega arith, omega arith))))
+      (λ e1. rw e1 (f 1 (omega arith, omega arith)))
+
+  admits : Refuses Numbered s (admit s sequence hash previous arrival)
+  admits = admit? (Refuses Numbered s) (refuses Numbered s) (λ i _. answers Numbered s (takesSlot s i sequence hash previous arrival .after) _ refl)
 
 module _ (s : State) where
-  -- one refusal more before what else may come
-  next : (b : Bool) (k : ℕ) (y : Stepped) → 1 ≤ k → k ≤ lastRefusal → Ranged s y → Ranged s (if b then refuse s k else y)
-  next b k y low high p = choice s b (refuse s k) y (refuses s k low high) p
+  -- ---- promote and remove
 
-  module _ (sequence : ℕ) (hash previous : List ℕ) (arrival : ℕ) where
-    found : Option ℕ → Stepped
-    found none = refuse s 7
-    found (some i) = answering (keeping s (admitAt s i sequence hash previous arrival)) (slot i)
-
-    found-ranged : (o : Option ℕ) → Ranged s (found o)
-    unfolding found
-    found-ranged none = refuses s 7 (omega arith) (omega arith)
-    found-ranged (some i) = answers s (keeping s (admitAt s i sequence hash previous arrival)) (slot i) (not-slot i)
-
-    abbrev known : Stepped
-    known = if isSome (find (s .tables .blocks .hashes) (s .tables .blocks .sequences) sequence hash) then refuse s 6 else found (nextFree (s .tables .blocks .sequences))
-
-    abbrev zero : Stepped
-    zero = if sameHash hash zeroHash then refuse s 5 else known
-
-    abbrev reserved : Stepped
-    reserved = if eqb sequence NONE then refuse s 4 else zero
-
-    abbrev lengths : Stepped
-    lengths = if not (eqb (length hash) hashLength && eqb (length previous) hashLength) then refuse s 2 else reserved
-
-    admits : Ranged s (if not (shaped (s .tables)) then refuse s 1 else lengths)
-    admits =
-        next (not (shaped (s .tables))) 1 lengths (omega arith) (omega arith)
-        (next (not (eqb (length hash) hashLength && eqb (length previous) hashLength)) 2 reserved (omega arith) (omega arith)
-        (next (eqb sequence NONE) 4 zero (omega arith) (omega arith)
-        (next (sameHash hash zeroHash) 5 known (omega arith) (omega arith)
-        (next (isSome (find (s .tables .blocks .hashes) (s .tables .blocks .sequences) sequence hash)) 6 (found (nextFree (s .tables .blocks .sequences))) (omega arith) (omega arith)
-        (found-ranged (nextFree (s .tables .blocks .sequences)))))))
-
-    admit-is : admit s sequence hash previous arrival ≡ (if not (shaped (s .tables)) then refuse s 1 else lengths)
-    unfolding admit found
-    admit-is = refl
-
-  promotes : (i : ℕ) → Ranged s (promote s i)
+  promotes : (i : ℕ) → Refuses Numbered s (promote s i)
   unfolding promote
   promotes i =
-      let y = answering (record { tables = promoted (s .tables) i; activeHead = i }) done in
+      let y = answering (promotedTo s i) done in
       let z = if not (isNext s i) then refuse s 8 else y in
       let w = if not (occupied (s .tables .blocks .sequences) i) then refuse s 3 else z in
-      next (not (shaped (s .tables))) 1 w (omega arith) (omega arith)
-      (next (not (occupied (s .tables .blocks .sequences) i)) 3 z (omega arith) (omega arith)
-      (next (not (isNext s i)) 8 y (omega arith) (omega arith) (answers s (y .after) done not-done)))
+      next Numbered s (not (shaped (s .tables))) 1 w (omega arith, omega arith)
+      (next Numbered s (not (occupied (s .tables .blocks .sequences) i)) 3 z (omega arith, omega arith)
+      (next Numbered s (not (isNext s i)) 8 y (omega arith, omega arith) (answers Numbered s (y .after) done refl)))
 
-  removes : (i : ℕ) → Ranged s (remove s i)
+  removes : (i : ℕ) → Refuses Numbered s (remove s i)
   unfolding remove
   removes i =
       let b = s .tables .blocks in
-      let count = length (markSubtree (b .parents) (b .sequences) i) in
-      let y = answering (keeping s (removed (s .tables) i)) (freed count) in
+      let y = answering (keeping s (removed (s .tables) i)) (freed (length (markSubtree (b .parents) (b .sequences) i))) in
       let z = if holdsActive b i then refuse s 9 else y in
       let w = if not (occupied (b .sequences) i) then refuse s 3 else z in
-      next (not (shaped (s .tables))) 1 w (omega arith) (omega arith)
-      (next (not (occupied (b .sequences) i)) 3 z (omega arith) (omega arith)
-      (next (holdsActive b i) 9 y (omega arith) (omega arith) (answers s (y .after) (freed count) (not-freed count))))
+      next Numbered s (not (shaped (s .tables))) 1 w (omega arith, omega arith)
+      (next Numbered s (not (occupied (b .sequences) i)) 3 z (omega arith, omega arith)
+      (next Numbered s (holdsActive b i) 9 y (omega arith, omega arith) (answers Numbered s (y .after) (y .answer) refl)))
 
-  asks : (now : ℕ) (o : Option Ask) → Ranged s (asked s now o)
+  -- ---- calls that meet refusal 1 only
+
+  shape-first : (y : Stepped) → Refuses First s y → Refuses First s (if not (shaped (s .tables)) then refuse s 1 else y)
+  shape-first y p = next First s (not (shaped (s .tables))) 1 y refl p
+
+  pub fresh-refused : (n : ℕ) → fresh s .answer ≡ refused n → (n ≡ 1) × (fresh s .after ≡ s)
+  unfolding fresh Refuses
+  fresh-refused = let u = freshState (blocksIn (s .tables)) (headsIn (s .tables)) in shape-first (answering u done) (answers First s u done refl)
+
+  pub restart-refused : (now n : ℕ) → restart s now .answer ≡ refused n → (n ≡ 1) × (restart s now .after ≡ s)
+  unfolding restart Refuses
+  restart-refused now = let u = keeping s (restarted (s .tables) now (s .activeHead)) in shape-first (answering u done) (answers First s u done refl)
+
+  asks : (now : ℕ) (o : Option Ask) → Refuses First s (asked s now o)
   unfolding asked
-  asks now none = answers s s noneDue not-none
-  asks now (some ask) =
-      let m = hashAt (s .tables .heads .missing) (ask .head) in
-      answers s (asked s now (some ask) .after) (request (ask .head) (ask .claims) m) (not-request (ask .head) (ask .claims) m)
+  asks now none = answers First s s noneDue refl
+  asks now (some ask) = answers First s (asked s now (some ask) .after) (request (ask .head) (ask .claims) (hashAt (s .tables .heads .missing) (ask .head))) refl
 
-  timers : (now : ℕ) (span : Option ℕ) → Ranged s (timer s now span)
-  unfolding timer
-  timers now span =
+  pub timer-refused : (now : ℕ) (span : Option ℕ) (n : ℕ) → timer s now span .answer ≡ refused n → (n ≡ 1) × (timer s now span .after ≡ s)
+  unfolding timer Refuses
+  timer-refused now span =
       let b = s .tables .blocks in
       let h = s .tables .heads in
       let o = recovery (b .hashes) (b .sequences) (h .tips) (h .tails) (h .requested) (h .connected) now (spanOr span) in
-      next (not (shaped (s .tables))) 1 (asked s now o) (omega arith) (omega arith) (asks now o)
+      shape-first (asked s now o) (asks now o)
 
-  restarts : (now : ℕ) → Ranged s (restart s now)
-  unfolding restart
-  restarts now =
-      let y = answering (keeping s (restarted (s .tables) now (s .activeHead))) done in
-      next (not (shaped (s .tables))) 1 y (omega arith) (omega arith) (answers s (y .after) done not-done)
+  pub deadline-refused : (span : Option ℕ) (n : ℕ) → earliestDeadline s span .answer ≡ refused n → (n ≡ 1) × (earliestDeadline s span .after ≡ s)
+  unfolding earliestDeadline Refuses
+  deadline-refused span =
+      let h = s .tables .heads in
+      option? (deadline (h .tips) (h .requested) (h .connected) (spanOr span))
+      (λ e. rw e (shape-first (answering s neverDue) (answers First s s neverDue refl)))
+      (λ time e. rw e (shape-first (answering s (dueAt time)) (answers First s s (dueAt time) refl)))
+
+  -- ---- every call of a list
+
+  numbered : (w : Stepped) → Refuses First s w → Refuses Numbered s w
+  unfolding Refuses
+  numbered w p n e = let q = p n e in let f = q .0 in ((omega arith, omega arith), q .1)
 
   -- a call that is refused gets a number from 1 to 9 and changes nothing
-  pub refused-keeps : (call : Call) (n : ℕ) → step s call .answer ≡ refused n → (1 ≤ n) × (n ≤ lastRefusal) × (step s call .after ≡ s)
-  unfolding step Ranged
-  refused-keeps (admitCall sequence hash previous arrival) = rw (admit-is sequence hash previous arrival) (admits sequence hash previous arrival)
+  pub refused-keeps : (call : Call) (n : ℕ) → step s call .answer ≡ refused n → ((1 ≤ n) × (n ≤ lastRefusal)) × (step s call .after ≡ s)
+  unfolding step Refuses
+  refused-keeps (admitCall sequence hash previous arrival) = admits s sequence hash previous arrival
   refused-keeps (promoteCall i) = promotes i
   refused-keeps (removeCall i) = removes i
-  refused-keeps (timerCall now span) = timers now span
-  refused-keeps (restartCall now) = restarts now
+  refused-keeps (timerCall now span) = numbered (timer s now span) (timer-refused now span)
+  refused-keeps (restartCall now) = numbered (restart s now) (restart-refused now)

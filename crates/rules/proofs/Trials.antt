@@ -91,6 +91,22 @@ active-kept = record {
   };
 }
 
+-- a fork into a full head table evicts its only sibling: the parent, which has risen before, stays
+unfoldable sibling-gone : Row
+sibling-gone = record {
+  given = trial (freshState 4 2) (admits 5 10 9 ∷ admits 6 11 10 ∷ admits 9 13 14 ∷ admits 6 12 10 ∷ []);
+  said = record {
+    answers = slot 0 ∷ slot 1 ∷ slot 2 ∷ slot 3 ∷ [];
+    sequences = 5 ∷ NONE ∷ 9 ∷ 6 ∷ [];
+    parents = NONE ∷ NONE ∷ NONE ∷ 0 ∷ [];
+    counts = 1 ∷ 0 ∷ 1 ∷ 1 ∷ [];
+    flags = 0 ∷ 0 ∷ 0 ∷ 0 ∷ [];
+    tips = 3 ∷ 2 ∷ [];
+    anchors = 0 ∷ 2 ∷ [];
+    connected = 0 ∷ 0 ∷ [];
+  };
+}
+
 -- a child before its parent, a second child, and a restart
 unfoldable late-child : Row
 late-child = record {
@@ -107,19 +123,19 @@ late-child = record {
   };
 }
 
--- a subtree goes, and its parent is a head again
+-- a block that is not next and a subtree that holds active are refused; then a subtree goes, and its parent is a head again
 unfoldable subtree-gone : Row
 subtree-gone = record {
-  given = trial (freshState 4 2) (admits 5 10 9 ∷ admits 6 11 10 ∷ admits 7 12 11 ∷ admits 7 13 11 ∷ removeCall 1 ∷ []);
+  given = trial (freshState 4 2) (admits 5 10 9 ∷ admits 6 11 10 ∷ admits 7 12 11 ∷ admits 7 13 11 ∷ promoteCall 0 ∷ promoteCall 2 ∷ removeCall 0 ∷ removeCall 1 ∷ []);
   said = record {
-    answers = slot 0 ∷ slot 1 ∷ slot 2 ∷ slot 3 ∷ freed 3 ∷ [];
+    answers = slot 0 ∷ slot 1 ∷ slot 2 ∷ slot 3 ∷ done ∷ refused 8 ∷ refused 9 ∷ freed 3 ∷ [];
     sequences = 5 ∷ NONE ∷ NONE ∷ NONE ∷ [];
     parents = NONE ∷ NONE ∷ NONE ∷ NONE ∷ [];
     counts = 1 ∷ 0 ∷ 0 ∷ 0 ∷ [];
-    flags = 0 ∷ 0 ∷ 0 ∷ 0 ∷ [];
+    flags = 5 ∷ 0 ∷ 0 ∷ 0 ∷ [];
     tips = 0 ∷ NONE ∷ [];
     anchors = 0 ∷ NONE ∷ [];
-    connected = 0 ∷ 0 ∷ [];
+    connected = 1 ∷ 0 ∷ [];
   };
 }
 
@@ -136,6 +152,22 @@ refreshed = record {
     tips = 0 ∷ 2 ∷ NONE ∷ [];
     anchors = 5 ∷ 5 ∷ NONE ∷ [];
     connected = 0 ∷ 0 ∷ 0 ∷ [];
+  };
+}
+
+-- a fork's head falls in a lower slot than its sibling's and finds itself first: it misses zeros, though the sibling knows the tail's previous hash
+unfoldable zeros-kept : Row
+zeros-kept = record {
+  given = trial (freshState 3 2) (admits 0 2 0 ∷ admits 2 3 1 ∷ admits 1 1 4 ∷ admits 2 5 1 ∷ timerCall 10 (some 5) ∷ timerCall 11 (some 5) ∷ []);
+  said = record {
+    answers = slot 0 ∷ slot 1 ∷ slot 2 ∷ slot 0 ∷ request 1 0 (hash 4) ∷ request 0 0 (hash 0) ∷ [];
+    sequences = 2 ∷ 2 ∷ 1 ∷ [];
+    parents = 2 ∷ 2 ∷ NONE ∷ [];
+    counts = 1 ∷ 1 ∷ 2 ∷ [];
+    flags = 0 ∷ 0 ∷ 0 ∷ [];
+    tips = 0 ∷ 1 ∷ [];
+    anchors = 2 ∷ 2 ∷ [];
+    connected = 0 ∷ 0 ∷ [];
   };
 }
 
@@ -172,9 +204,9 @@ mended = record {
 }
 
 rows : List Row
-rows = whole ∷ active-kept ∷ late-child ∷ subtree-gone ∷ refreshed ∷ mended ∷ []
+rows = whole ∷ active-kept ∷ sibling-gone ∷ late-child ∷ subtree-gone ∷ refreshed ∷ zeros-kept ∷ mended ∷ []
 
 -- each list gives what is said
 as-said : map (λ (r : Row). r .given) rows ≡ map (λ (r : Row). r .said) rows
-unfolding rows trial whole active-kept late-child subtree-gone refreshed mended made step run freshState emptyBlocks emptyHeads lowest better best countBelow allBelow inOrder bytesFrom hashAt putHash sameHash hashLess slotsOf occupied used active isConnected stored withStatus putBlock putHead isBlock find nextFree findParent childOf children childless reaches inSubtree markSubtree adjusted adjustCounts setOccupied setOnActiveChain setStatus delete insertAt resolveParent adjust anchorFrom locateAnchor waitsAt knowing missingPart keep recompute slotOfHead refreshHead recomputeUsed recomputeAll blockBefore mayGo victim evictFrom evict evictOne firstEmpty seatHead makeRoom insertHead moveUp fork placeHead misses late joined link linkLate recomputeMissed linkTails recomputeMissing resolveTails admitted outgrown refreshOutgrown refreshTails activate promoted recount recountAll listed headFreed takesOver heir dropHead dropHeads blocksDeleted freeAll removed rebuildAt rebuildHeads rebuilt restarted due mayAsk asksBefore chosen claimed askAt recovery markRequested blocksFit headsFit shaped admitAt admit isNext promote holdsActive remove asked timer restart
+unfolding rows trial whole active-kept sibling-gone late-child subtree-gone refreshed zeros-kept mended made step run freshState emptyBlocks emptyHeads lowest better best countBelow allBelow inOrder bytesFrom hashAt putHash sameHash hashLess slotsOf occupied used active isConnected stored withStatus putBlock putHead isBlock find nextFree findParent childOf children childless reaches inSubtree markSubtree adjusted adjustCounts setOccupied setOnActiveChain setStatus delete insertAt resolveParent adjust anchorFrom locateAnchor waitsAt knowing missingPart keep recompute slotOfHead refreshHead recomputeUsed recomputeAll blockBefore mayGo victim evictFrom evict evictOne firstEmpty seatHead makeRoom insertHead moveUp fork placeHead misses late joined link linkLate recomputeMissed linkTails recomputeMissing resolveTails admitted outgrown refreshOutgrown refreshTails activate promoted recount recountAll listed headFreed takesOver heir dropHead dropHeads blocksDeleted freeAll removed rebuildAt rebuildHeads rebuilt restarted due mayAsk asksBefore chosen claimed askAt recovery markRequested blocksFit headsFit shaped admitAt admit isNext promote holdsActive remove asked timer restart
 as-said = refl

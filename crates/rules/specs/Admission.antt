@@ -7,7 +7,7 @@ use lib.Dec.{eqb}
 use lib.IntN.{pos}
 use lib.ListN.{set}
 use Rattle.rules.specs.Common.{if_then_else_, lowest, inOrder}
-use Rattle.rules.specs.Hashes.{zeroHash, hashAt, sameHash}
+use Rattle.rules.specs.Hashes.{zeroHash, hashAt, firstByte, sameHash}
 use Rattle.rules.specs.Records.{
   NONE,
   Blocks,
@@ -21,13 +21,17 @@ use Rattle.rules.specs.Records.{
   occupied,
   used,
   stored,
-  emptyHead,
   putHead,
+  clear,
 }
 use Rattle.rules.specs.BlockTable.{adjust, withParents, resolveParent}
 use Rattle.rules.specs.Caches.{Caches, caches, withCaches, slotOfHead, recomputeHead, refreshHead}
 use Rattle.rules.specs.Eviction.{evictOne}
 use Rattle.rules.specs.declared.Head.{Head}
+
+-- block i counts one more
+abbrev pub oneMore : Tables → ℕ → Tables
+oneMore t i = record { blocks = adjust (t .blocks) i (pos 1); heads = t .heads }
 
 -- the lowest empty head slot
 unfoldable pub firstEmpty : (tips : List ℕ) → Option ℕ
@@ -69,8 +73,7 @@ moveUp t k block previous arrival = record {
 
 -- a parent that is no head counts one more, and a head is inserted
 unfoldable pub fork : Tables → ℕ → ℕ → List ℕ → ℕ → ℕ → Tables
-fork t block parent previous arrival activeHead =
-    insertHead (record { blocks = adjust (t .blocks) parent (pos 1); heads = t .heads }) block arrival block previous activeHead
+fork t block parent previous arrival activeHead = insertHead (oneMore t parent) block arrival block previous activeHead
 
 unfoldable pub placeHead : Tables → ℕ → Option ℕ → List ℕ → ℕ → ℕ → Tables
 placeHead t block none previous arrival activeHead = insertHead t block arrival block previous activeHead
@@ -83,6 +86,10 @@ placeHead t block (some parent) previous arrival activeHead =
 unfoldable pub misses : Heads → List ℕ → ℕ → Bool
 misses h hash k = stored (h .tips) (h .connected) k && sameHash (hashAt (h .missing) k) hash
 
+-- a stored head whose missing hash begins with this byte
+unfoldable pub mayMiss : (tips missing connected : List ℕ) → ℕ → ℕ → Bool
+mayMiss tips missing connected first k = stored tips connected k && eqb (firstByte (hashAt missing k)) first
+
 -- its tail is not the new block, is one higher in sequence and has no parent
 unfoldable pub late : Tables → ℕ → List ℕ → ℕ → ℕ → Bool
 late t block hash sequence k =
@@ -94,8 +101,8 @@ late t block hash sequence k =
 unfoldable pub joined : Tables → ℕ → Tables
 joined t block =
     elim (slotOfHead (t .heads .tips) block) [
-      | some k ↦ record { blocks = t .blocks; heads = putHead (t .heads) k emptyHead }
-      | none ↦ record { blocks = adjust (t .blocks) block (pos 1); heads = t .heads }
+      | some k ↦ record { blocks = t .blocks; heads = clear (t .heads) k }
+      | none ↦ oneMore t block
     ]
 
 unfoldable pub link : Tables → ℕ → ℕ → Tables
@@ -129,7 +136,7 @@ resolveTails t block previous =
 -- the new block counts 1
 unfoldable pub admitted : Tables → ℕ → Option ℕ → List ℕ → ℕ → ℕ → Tables
 admitted t block parent previous arrival activeHead =
-    resolveTails (placeHead (record { blocks = adjust (t .blocks) block (pos 1); heads = t .heads }) block parent previous arrival activeHead) block previous
+    resolveTails (placeHead (oneMore t block) block parent previous arrival activeHead) block previous
 
 -- ---- admit's added step
 

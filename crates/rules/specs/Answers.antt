@@ -3,14 +3,21 @@ use mathlib.Core.Bool.{Bool, true, false}
 use mathlib.Core.List.{List}
 use mathlib.Core.Option.{Option, none, some}
 use Prim.Native.Nat.{ℕ}
-use Rattle.rules.specs.Records.{statusNumber}
+use Rattle.rules.specs.Hashes.{zeroHash}
+use Rattle.rules.specs.Records.{statusNumber, emptyBlock}
+use Rattle.rules.specs.BlockTable.{Insertion, intoSlot, reserved, full}
 use Rattle.rules.specs.Anchor.{Anchor, connection, tail}
+use Rattle.rules.specs.Caches.{HeadInUse}
 use Rattle.rules.specs.Timer.{Ask}
 use Rattle.rules.specs.declared.Block.{Block}
 use Rattle.rules.specs.declared.Found.{Found}
 use Rattle.rules.specs.declared.Found.the-variants as found
 use Rattle.rules.specs.declared.FoundHead.{FoundHead}
 use Rattle.rules.specs.declared.FoundHead.the-variants as foundHead
+use Rattle.rules.specs.declared.NextHead.{NextHead}
+use Rattle.rules.specs.declared.NextHead.the-variants as nextHead
+use Rattle.rules.specs.declared.Inserted.{Inserted}
+use Rattle.rules.specs.declared.Inserted.the-variants as inserted
 use Rattle.rules.specs.declared.Got.{Got}
 use Rattle.rules.specs.declared.Counted.{Counted}
 use Rattle.rules.specs.declared.Counted.the-variants as counted
@@ -48,8 +55,19 @@ abbrev pub headFound : FoundHead → Option ℕ
 headFound (foundHead.At slot) = some (slot .0)
 headFound foundHead.Nothing = none
 
-abbrev pub blockGot : Got → Option Block
-blockGot got = elim (got .there) [ true ↦ some (got .block) | false ↦ none ]
+abbrev pub headInUse : NextHead → Option HeadInUse
+headInUse (nextHead.At slot tip anchor) = some (record { slot = slot .0; tip = tip .0; anchor = anchor .0 })
+headInUse nextHead.Nothing = none
+
+abbrev pub insertionMade : Inserted → Insertion
+insertionMade (inserted.At slot) = intoSlot (slot .0)
+insertionMade inserted.ReservedSequence = reserved
+insertionMade inserted.Full = full
+
+-- where nothing is there the block is the empty record
+abbrev pub gotBlock : Option Block → Got
+gotBlock none = record { there = false; block = emptyBlock }
+gotBlock (some block) = record { there = true; block = block }
 
 abbrev pub countGot : Counted → Option ℕ
 countGot (counted.Count count) = some count
@@ -121,6 +139,17 @@ timedSaid (timed.Refused why) missing = refused (refusalNumber why)
 
 abbrev pub timerSaid : TimerAnswer → Answer
 timerSaid answer = timedSaid (answer .timed) (answer .missing)
+
+-- the hash beside a timer's answer: that of the request, zeros where there is none
+abbrev pub hashAsked : Answer → List ℕ
+hashAsked (request head claims missing) = missing
+hashAsked (refused number) = zeroHash
+hashAsked done = zeroHash
+hashAsked (slot i) = zeroHash
+hashAsked (freed blocks) = zeroHash
+hashAsked noneDue = zeroHash
+hashAsked (dueAt time) = zeroHash
+hashAsked neverDue = zeroHash
 
 abbrev pub deadlineSaid : DeadlineAnswer → Answer
 deadlineSaid (deadlineAnswer.At time) = dueAt time

@@ -21,9 +21,9 @@ use Rattle.rules.specs.Records.{
   withBit0,
   statusOf,
   withStatus,
-  emptyBlock,
   blockAt,
   putBlock,
+  erase,
 }
 use Rattle.rules.specs.declared.Block.{Block}
 
@@ -129,15 +129,33 @@ setStatus sequences flags i status = setOccupied sequences flags i (withStatus (
 
 -- an occupied slot becomes the empty record
 unfoldable pub delete : Blocks → ℕ → Blocks
-delete b i = if occupied (b .sequences) i then putBlock b i emptyBlock else b
+delete b i = if occupied (b .sequences) i then erase b i else b
 
 -- beyond n nothing changes
 unfoldable pub insertAt : Blocks → ℕ → Block → Blocks
 insertAt b i block = if ltb i (slotsOf (b .sequences)) then putBlock b i block else b
 
+-- what insert answers: the block's slot, or why it has none
+pub data Insertion : Type 0 where
+  intoSlot : ℕ → Insertion
+  reserved : Insertion
+  full : Insertion
+
+-- the lowest empty slot; a block of the reserved sequence gets none, and a full table has none
+unfoldable pub insertion : (sequences : List ℕ) → Block → Insertion
+insertion sequences block =
+    if eqb (block .sequence .0) NONE then reserved else elim (nextFree sequences) [ none ↦ full | some i ↦ intoSlot i ]
+
+unfoldable pub insert : Blocks → Block → Blocks
+insert b block = elim (insertion (b .sequences) block) [ intoSlot i ↦ insertAt b i block | reserved ↦ b | full ↦ b ]
+
 -- an empty slot is written too
 unfoldable pub resolveParent : (parents : List ℕ) → ℕ → ℕ → List ℕ
 resolveParent parents i parent = set parents i parent
+
+-- an empty slot keeps its parent
+unfoldable pub setParent : (parents sequences : List ℕ) → ℕ → ℕ → List ℕ
+setParent parents sequences i parent = setOccupied sequences parents i parent
 
 abbrev pub withParents : Blocks → List ℕ → Blocks
 withParents b parents = record { hashes = b .hashes; parents = parents; sequences = b .sequences; counts = b .counts; flags = b .flags }

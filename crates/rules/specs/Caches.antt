@@ -3,11 +3,11 @@ use mathlib.Core.Bool.{Bool, true, false, _&&_}
 use mathlib.Core.List.{List}
 use mathlib.Core.Option.{Option, none, some}
 use Prim.Native.Nat.{ℕ, _*_}
-use lib.Dec.{eqb}
+use lib.Dec.{eqb, leb}
 use lib.ListN.{getD, set, take, drop}
 use Rattle.rules.specs.Common.{if_then_else_, lowest, inOrder}
 use Rattle.rules.specs.Hashes.{hashLength, zeroHash, hashAt, putHash}
-use Rattle.rules.specs.Records.{NONE, Blocks, Heads, slotsOf, tipAt, tailAt, used, stored, withBit0}
+use Rattle.rules.specs.Records.{NONE, Blocks, Heads, slotsOf, tipAt, tailAt, used, isConnected, stored, withBit0}
 use Rattle.rules.specs.Anchor.{Anchor, connection, tail, locateAnchor}
 
 -- what the caches are kept in; tips and arrival times are not among them
@@ -40,6 +40,11 @@ unfoldable pub missingPart : (previous missing : List ℕ) → ℕ → ℕ → �
 missingPart previous missing at arriving k =
     if eqb at arriving then take hashLength previous else take hashLength (drop (k * hashLength) missing)
 
+-- that part, read as a hash, is what head k misses with this tail
+abbrev pub missingKept : (tips tails missing connected : List ℕ) → ℕ → ℕ → ℕ → List ℕ → List ℕ
+missingKept tips tails missing connected k at arriving previous =
+    putHash missing k (hashAt (missingPart previous missing at arriving (knowing tips tails connected at k)) 0)
+
 abbrev pub connectionKept : Caches → ℕ → ℕ → Caches
 connectionKept c k at = record {
   tails = set (c .tails) k at;
@@ -54,7 +59,7 @@ tailKept tips c k at arriving previous =
     let connected = set (c .connected) k (withBit0 (getD (c .connected) k 0) false) in
     record {
       tails = tails;
-      missing = putHash (c .missing) k (hashAt (missingPart previous (c .missing) at arriving (knowing tips tails connected at k)) 0);
+      missing = missingKept tips tails (c .missing) connected k at arriving previous;
       requested = c .requested;
       connected = connected;
     }
@@ -91,3 +96,31 @@ recomputeHead b h k arriving previous =
 
 abbrev pub recomputeHeads : Blocks → Heads → Heads
 recomputeHeads b h = withCaches h (recomputeAll (b .parents) (b .sequences) (b .flags) (h .tips) (caches h))
+
+-- ---- one head
+
+-- a head in use: its slot, its tip and its anchor
+pub record HeadInUse : Type 0 where
+  pub slot : ℕ
+  pub tip : ℕ
+  pub anchor : ℕ
+
+-- the lowest head in use from this slot on
+unfoldable pub nextUsed : (tips : List ℕ) → ℕ → Option ℕ
+nextUsed tips from = lowest (λ k. leb from k && used tips k) (slotsOf tips)
+
+unfoldable pub nextHead : (tips tails : List ℕ) → ℕ → Option HeadInUse
+nextHead tips tails from =
+    elim (nextUsed tips from) [ none ↦ none | some k ↦ some (record { slot = k; tip = tipAt tips k; anchor = tailAt tails k }) ]
+
+-- the tip of a connected head
+unfoldable pub connectedHeadAt : (tips connected : List ℕ) → ℕ → Option ℕ
+connectedHeadAt tips connected k = if used tips k && isConnected connected k then some (tipAt tips k) else none
+
+-- the tail of a stored head
+unfoldable pub storedHeadTail : (tips tails connected : List ℕ) → ℕ → Option ℕ
+storedHeadTail tips tails connected k = if stored tips connected k then some (tailAt tails k) else none
+
+-- an empty head keeps its missing hash
+unfoldable pub setMissing : (tips missing : List ℕ) → ℕ → List ℕ → List ℕ
+setMissing tips missing k hash = if used tips k then putHash missing k hash else missing

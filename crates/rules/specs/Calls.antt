@@ -76,9 +76,7 @@ unfoldable pub freshState : ℕ → ℕ → State
 freshState n m = record { tables = record { blocks = emptyBlocks n; heads = emptyHeads m }; activeHead = NONE }
 
 unfoldable pub fresh : State → Stepped
-fresh s =
-    if not (shaped (s .tables)) then refuse s 1
-    else answering (freshState (blocksIn (s .tables)) (headsIn (s .tables))) done
+fresh s = if not (shaped (s .tables)) then refuse s 1 else answering (freshState (blocksIn (s .tables)) (headsIn (s .tables))) done
 
 -- ---- admit
 
@@ -90,36 +88,52 @@ abbrev pub slotOrNone : Option ℕ → ℕ
 slotOrNone none = NONE
 slotOrNone (some i) = i
 
+-- an occupied slot has this sequence and hash
+abbrev pub known : State → ℕ → List ℕ → Bool
+known s sequence hash = isSome (find (s .tables .blocks .hashes) (s .tables .blocks .sequences) sequence hash)
+
+abbrev pub parentFound : State → ℕ → List ℕ → Option ℕ
+parentFound s sequence previous = findParent (s .tables .blocks .hashes) (s .tables .blocks .sequences) previous sequence
+
+-- the block is in slot i, below the parent that was found
+abbrev pub inserted : State → ℕ → ℕ → List ℕ → List ℕ → Tables
+inserted s i sequence hash previous = record {
+  blocks = insertAt (s .tables .blocks) i (newBlock sequence hash (slotOrNone (parentFound s sequence previous)));
+  heads = s .tables .heads;
+}
+
 unfoldable pub admitAt : State → ℕ → ℕ → List ℕ → List ℕ → ℕ → Tables
 admitAt s i sequence hash previous arrival =
-    let b = s .tables .blocks in
-    let parent = findParent (b .hashes) (b .sequences) previous sequence in
-    refreshTails (admitted (record { blocks = insertAt b i (newBlock sequence hash (slotOrNone parent)); heads = s .tables .heads }) i parent previous arrival (s .activeHead))
+    refreshTails (admitted (inserted s i sequence hash previous) i (parentFound s sequence previous) previous arrival (s .activeHead))
+
+-- slot i is taken, and returned
+abbrev pub takesSlot : State → ℕ → ℕ → List ℕ → List ℕ → ℕ → Stepped
+takesSlot s i sequence hash previous arrival = answering (keeping s (admitAt s i sequence hash previous arrival)) (slot i)
 
 unfoldable pub admit : State → ℕ → List ℕ → List ℕ → ℕ → Stepped
 admit s sequence hash previous arrival =
-    let b = s .tables .blocks in
     if not (shaped (s .tables)) then refuse s 1
     else if not (eqb (length hash) hashLength && eqb (length previous) hashLength) then refuse s 2
     else if eqb sequence NONE then refuse s 4
     else if sameHash hash zeroHash then refuse s 5
-    else if isSome (find (b .hashes) (b .sequences) sequence hash) then refuse s 6
-    else elim (nextFree (b .sequences)) [
-      | none ↦ refuse s 7
-      | some i ↦ answering (keeping s (admitAt s i sequence hash previous arrival)) (slot i)
-    ]
+    else if known s sequence hash then refuse s 6
+    else elim (nextFree (s .tables .blocks .sequences)) [ none ↦ refuse s 7 | some i ↦ takesSlot s i sequence hash previous arrival ]
 
 -- ---- promote
 
 unfoldable pub isNext : State → ℕ → Bool
 isNext s i = eqb (s .activeHead) NONE || eqb (parentAt (s .tables .blocks .parents) i) (s .activeHead)
 
+-- the record names the block
+abbrev pub promotedTo : State → ℕ → State
+promotedTo s i = record { tables = promoted (s .tables) i; activeHead = i }
+
 unfoldable pub promote : State → ℕ → Stepped
 promote s i =
     if not (shaped (s .tables)) then refuse s 1
     else if not (occupied (s .tables .blocks .sequences) i) then refuse s 3
     else if not (isNext s i) then refuse s 8
-    else answering (record { tables = promoted (s .tables) i; activeHead = i }) done
+    else answering (promotedTo s i) done
 
 -- ---- remove
 
@@ -167,9 +181,7 @@ earliestDeadline s span =
 -- ---- restart
 
 unfoldable pub restart : State → ℕ → Stepped
-restart s now =
-    if not (shaped (s .tables)) then refuse s 1
-    else answering (keeping s (restarted (s .tables) now (s .activeHead))) done
+restart s now = if not (shaped (s .tables)) then refuse s 1 else answering (keeping s (restarted (s .tables) now (s .activeHead))) done
 
 -- ---- lists of calls; fresh is not among them
 

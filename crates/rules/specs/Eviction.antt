@@ -20,16 +20,19 @@ use Rattle.rules.specs.Records.{
   occupied,
   active,
   used,
-  emptyHead,
-  putHead,
+  clear,
 }
 use Rattle.rules.specs.BlockTable.{adjusted, adjust, delete}
+
+-- block i has the lower hash
+abbrev pub hashBefore : (hashes : List ℕ) → ℕ → ℕ → Bool
+hashBefore hashes i j = hashLess (hashAt hashes i) (hashAt hashes j)
 
 -- block i goes before block j: lower sequence, then lower hash
 unfoldable pub blockBefore : (hashes sequences : List ℕ) → ℕ → ℕ → Bool
 blockBefore hashes sequences i j =
     ltb (sequenceAt sequences i) (sequenceAt sequences j)
-    || (eqb (sequenceAt sequences i) (sequenceAt sequences j) && hashLess (hashAt hashes i) (hashAt hashes j))
+    || (eqb (sequenceAt sequences i) (sequenceAt sequences j) && hashBefore hashes i j)
 
 -- never the active head nor a head with an empty tip
 unfoldable pub mayGo : (sequences tips : List ℕ) → ℕ → ℕ → Bool
@@ -53,7 +56,7 @@ evictFrom (suc visits) b i =
 unfoldable pub evict : Tables → ℕ → Tables
 evict t k = record {
   blocks = evictFrom (slotsOf (t .blocks .sequences)) (t .blocks) (tipAt (t .heads .tips) k);
-  heads = putHead (t .heads) k emptyHead;
+  heads = clear (t .heads) k;
 }
 
 -- without a victim nothing changes

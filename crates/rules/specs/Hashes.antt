@@ -22,6 +22,9 @@ bytesFrom bytes from (suc k) = getD bytes from 0 ∷ bytesFrom bytes (suc from) 
 unfoldable pub hashAt : List ℕ → ℕ → List ℕ
 hashAt bytes i = bytesFrom bytes (i * hashLength) hashLength
 
+abbrev pub firstByte : List ℕ → ℕ
+firstByte hash = getD hash 0 0
+
 unfoldable pub putHash : List ℕ → ℕ → List ℕ → List ℕ
 putHash bytes i hash = sets bytes (i * hashLength) hash
 

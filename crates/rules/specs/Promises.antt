@@ -5,15 +5,18 @@ use mathlib.Core.Logic.{_≢_, _⊎_, _↔_}
 use mathlib.Core.Bool.{Bool, true, not, _&&_}
 use mathlib.Core.List.{List, [], _∷_, _++_}
 use mathlib.Core.Option.{Option, none, some}
-use Prim.Native.Nat.{ℕ, suc, _%_, _<_, _≤_, max}
+use Prim.Native.Nat.{ℕ, suc, _%_, _≤_, max}
 use lib.Dec.{eqb}
 use lib.ListN.{length, getD}
 use Rattle.rules.specs.Common.{if_then_else_, isAt, countBelow}
 use Rattle.rules.specs.Hashes.{hashAt}
-use Rattle.rules.specs.Records.{NONE, Blocks, Heads, emptyBlock, emptyHead, blockAt}
+use Rattle.rules.specs.Records.{NONE, Blocks, Heads, Tables, emptyBlock, emptyHead, blockAt}
+use Rattle.rules.specs.Caches.{slotOfHead}
 use Rattle.rules.specs.Eviction.{victim}
+use Rattle.rules.specs.Admission.{oneMore, firstEmpty}
+use Rattle.rules.specs.Rebuild.{isLeaf, rebuiltBelow, headless}
 use Rattle.rules.specs.Answers.{Answer, refused, done, slot, freed, request, noneDue, dueAt, neverDue}
-use Rattle.rules.specs.Calls.{State, Call, admitCall, promoteCall, removeCall, timerCall, restartCall, step, run, shaped, blocksIn, headsIn}
+use Rattle.rules.specs.Calls.{State, Call, admitCall, promoteCall, removeCall, timerCall, restartCall, step, run, shaped, blocksIn, headsIn, parentFound, inserted}
 use Rattle.rules.specs.declared.Head.{Head}
 
 -- ---- the tables, slot by slot
@@ -155,6 +158,32 @@ unfoldable pub lastAdmitted : ℕ → Option Name → List Made → Option Name
 lastAdmitted i was [] = was
 lastAdmitted i was (made ∷ log) = lastAdmitted i (if isAt (slotReturned (made .answer)) i then nameGiven (made .call) else was) log
 
+-- ---- the search for a victim
+
+-- the tables into which a call inserts a head; only `insertHead` looks for a victim, and it stands in three rules: `placeHead`,
+-- where there is no parent, `fork` and `rebuildAt`
+pub data Inserts (s : State) : Call → Tables → Type 0 where
+  -- an admitted block without parent: it counts 1
+  root : (given : ℕ) (hash previous : List ℕ) (arrival i : ℕ) → step s (admitCall given hash previous arrival) .answer ≡ slot i
+      → parentFound s given previous ≡ none
+      → Inserts s (admitCall given hash previous arrival) (oneMore (inserted s i given hash previous) i)
+  -- one whose parent is no head: it counts 1, and the parent one more
+  fork : (given : ℕ) (hash previous : List ℕ) (arrival i p : ℕ) → step s (admitCall given hash previous arrival) .answer ≡ slot i
+      → parentFound s given previous ≡ some p → slotOfHead (s .tables .heads .tips) p ≡ none
+      → Inserts s (admitCall given hash previous arrival) (oneMore (oneMore (inserted s i given hash previous) i) p)
+  -- a childless block of a restart: the slots below it have their heads
+  again : (now i : ℕ) → step s (restartCall now) .answer ≡ done
+      → isLeaf (rebuiltBelow i (headless (s .tables)) now (s .activeHead)) i ≡ true
+      → Inserts s (restartCall now) (rebuiltBelow i (headless (s .tables)) now (s .activeHead))
+
+-- where no head slot is empty there is a victim
+abbrev pub VictimIfFull : Tables → ℕ → Type 0
+VictimIfFull t activeHead = firstEmpty (t .heads .tips) ≡ none → victim (t .blocks .hashes) (t .blocks .sequences) (t .heads .tips) activeHead ≢ none
+
+-- a call that looks for a victim finds one
+abbrev pub FindsVictims : State → Call → Type 0
+FindsVictims s call = (t : Tables) → Inserts s call t → VictimIfFull t (s .activeHead)
+
 -- ---- the promises
 
 -- of the blocks, their counts apart
@@ -183,9 +212,6 @@ pub record Sound (s : State) : Type 0 where
   pub anchored : (k : ℕ) → InUse s k → Anchored s k
   -- an empty head is the fixed record
   pub emptyHeads : (k : ℕ) → ¬ (InUse s k) → headAt (s .tables .heads) k ≡ emptyHead
-  -- a full head table has a victim, also after further blocks have been written
-  pub victims : (hashes sequences : List ℕ) → ((k : ℕ) → k < headsIn (s .tables) → InUse s k × (getD sequences (tip s k) NONE ≢ NONE))
-      → victim hashes sequences (s .tables .heads .tips) (s .activeHead) ≢ none
   -- a block has no more children than there are heads, and one more
   pub few : (i : ℕ) → Occupied s i → children s i ≤ suc (headsIn (s .tables))
 
@@ -203,8 +229,11 @@ pub record Promise (log : List Made) (s : State) (calls : List Call) : Type 0 wh
   -- a promoted block is never freed and keeps slot, sequence and hash
   pub stays : (more : List Call) (i : ℕ) → Promoted i (log ++ made s calls)
       → Occupied (run s (calls ++ more)) i × Active (run s (calls ++ more)) i × (name (run s (calls ++ more)) i ≡ name (run s calls) i)
+  -- whichever call is made next finds a victim when it looks for one
+  pub victims : (call : Call) → FindsVictims (run s calls) call
 
 -- of a restart from blocks whose counts, and heads, may be anything
 pub record Mended (s : State) (now : ℕ) : Type 0 where
   pub sound : Sound (step s (restartCall now) .after)
   pub stays : (i : ℕ) → Active s i → Active (step s (restartCall now) .after) i × (name (step s (restartCall now) .after) i ≡ name s i)
+  pub victims : FindsVictims s (restartCall now)

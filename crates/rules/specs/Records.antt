@@ -4,7 +4,7 @@ use mathlib.Core.List.{List}
 use Prim.Native.Nat.{ℕ, _+_, _*_, _/_, _%_, min}
 use lib.Dec.{eqb}
 use lib.ListN.{length, getD, set}
-use Rattle.rules.specs.Common.{if_then_else_}
+use Rattle.rules.specs.Common.{if_then_else_, isSome, lowest, countBelow}
 use Rattle.rules.specs.Hashes.{zeroHash, hashAt, putHash}
 use Rattle.rules.specs.declared.Block.{Block}
 use Rattle.rules.specs.declared.Head.{Head}
@@ -99,6 +99,14 @@ isConnected connected k = bit0 (getD connected k 0)
 unfoldable pub stored : (tips connected : List ℕ) → ℕ → Bool
 stored tips connected k = used tips k && not (isConnected connected k)
 
+-- how many heads are in use
+unfoldable pub headCount : (tips : List ℕ) → ℕ
+headCount tips = countBelow (used tips) (slotsOf tips)
+
+-- some head is stored
+unfoldable pub hasStoredHead : (tips connected : List ℕ) → Bool
+hasStoredHead tips connected = isSome (lowest (stored tips connected) (slotsOf tips))
+
 -- the number of a status
 abbrev pub statusNumber : BlockStatus → ℕ
 statusNumber Stored = 0
@@ -147,3 +155,10 @@ putHead h k head = record {
   arrivals = set (h .arrivals) k (head .arrival);
   connected = set (h .connected) k (head .connected);
 }
+
+-- a slot or a head becomes the empty record
+abbrev pub erase : Blocks → ℕ → Blocks
+erase b i = putBlock b i emptyBlock
+
+abbrev pub clear : Heads → ℕ → Heads
+clear h k = putHead h k emptyHead

@@ -6,7 +6,7 @@ use Prim.Native.Nat.{ℕ, max, min}
 use lib.Dec.{eqb}
 use lib.ListN.{set}
 use Rattle.rules.specs.Common.{if_then_else_, isSome, isAt, lowest, inOrder}
-use Rattle.rules.specs.Records.{NONE, Blocks, Heads, Tables, slotsOf, parentAt, tipAt, occupied, used, emptyHead, putHead}
+use Rattle.rules.specs.Records.{NONE, Blocks, Heads, Tables, slotsOf, parentAt, tipAt, occupied, used, clear}
 use Rattle.rules.specs.BlockTable.{children, childless, markSubtree, delete, maxCount, withCounts}
 use Rattle.rules.specs.Caches.{slotOfHead, recomputeHeads}
 use Rattle.rules.specs.Admission.{withTips}
@@ -34,20 +34,20 @@ unfoldable pub headFreed : (deleted tips : List ℕ) → ℕ → Bool
 headFreed deleted tips k = used tips k && listed deleted (tipAt tips k)
 
 -- the root's parent takes over a head: it is occupied, now childless and no head
-unfoldable pub takesOver : Tables → ℕ → Bool
-takesOver t parent =
-    occupied (t .blocks .sequences) parent && not (isSome (slotOfHead (t .heads .tips) parent)) && childless (t .blocks .parents) (t .blocks .sequences) parent
+unfoldable pub takesOver : (parents sequences tips : List ℕ) → ℕ → Bool
+takesOver parents sequences tips parent =
+    occupied sequences parent && not (isSome (slotOfHead tips parent)) && childless parents sequences parent
 
 -- the lowest head whose tip was freed is the one that moves
-unfoldable pub heir : Tables → List ℕ → ℕ → Option ℕ
-heir t deleted parent =
-    if takesOver t parent then lowest (headFreed deleted (t .heads .tips)) (slotsOf (t .heads .tips)) else none
+unfoldable pub heir : (parents sequences tips deleted : List ℕ) → ℕ → Option ℕ
+heir parents sequences tips deleted parent =
+    if takesOver parents sequences tips parent then lowest (headFreed deleted tips) (slotsOf tips) else none
 
 -- the rest are emptied
 unfoldable pub dropHead : List ℕ → Option ℕ → ℕ → ℕ → Heads → Heads
 dropHead deleted moving parent k h =
     if isAt moving k then withTips h (set (h .tips) k parent)
-    else if headFreed deleted (h .tips) k then putHead h k emptyHead
+    else if headFreed deleted (h .tips) k then clear h k
     else h
 
 unfoldable pub dropHeads : List ℕ → Option ℕ → ℕ → Heads → Heads
@@ -56,7 +56,7 @@ dropHeads deleted moving parent h = inOrder (dropHead deleted moving parent) (sl
 unfoldable pub blocksDeleted : Tables → List ℕ → ℕ → Tables
 blocksDeleted t deleted parent = record {
   blocks = recounted (t .blocks);
-  heads = recomputeHeads (t .blocks) (dropHeads deleted (heir t deleted parent) parent (t .heads));
+  heads = recomputeHeads (t .blocks) (dropHeads deleted (heir (t .blocks .parents) (t .blocks .sequences) (t .heads .tips) deleted parent) parent (t .heads));
 }
 
 -- ---- remove marks, frees, and goes on with the root's parent

@@ -11,12 +11,17 @@ pub struct HeadSlot(pub u32);
 // A block's sequence number.
 pub struct Sequence(pub u32);
 
+// No block, no head, and the sequence of an empty slot: one number, and a constant of each type.
 impl BlockSlot {
-    pub const NONE_REF: u32 = 4294967295;
+    pub const NONE_REF: BlockSlot = BlockSlot(4294967295);
+}
+
+impl HeadSlot {
+    pub const NONE_REF: HeadSlot = HeadSlot(4294967295);
 }
 
 impl Sequence {
-    pub const NONE_REF: u32 = 4294967295;
+    pub const NONE_REF: Sequence = Sequence(4294967295);
 }
 
 pub struct Block {
@@ -33,8 +38,8 @@ impl Block {
     {
         Block {
             hash: [0u8; 32],
-            parent: BlockSlot(BlockSlot::NONE_REF),
-            sequence: Sequence(Sequence::NONE_REF),
+            parent: BlockSlot::NONE_REF,
+            sequence: Sequence::NONE_REF,
             count: 0,
             flags: 0,
         }
@@ -55,8 +60,8 @@ impl Head {
         ensures { λ r. ⌜ r ≡ emptyHead ⌝ }
     {
         Head {
-            tip: BlockSlot(BlockSlot::NONE_REF),
-            tail: BlockSlot(BlockSlot::NONE_REF),
+            tip: BlockSlot::NONE_REF,
+            tail: BlockSlot::NONE_REF,
             missing: [0u8; 32],
             requested: 0,
             arrival: 0,
@@ -81,6 +86,19 @@ pub enum Found {
 pub enum FoundHead {
     At(HeadSlot),
     Nothing,
+}
+
+// A head in use with its tip and its anchor, or none.
+pub enum NextHead {
+    At(HeadSlot, BlockSlot, BlockSlot),
+    Nothing,
+}
+
+// The slot of an inserted block, or why it has none.
+pub enum Inserted {
+    At(BlockSlot),
+    ReservedSequence,
+    Full,
 }
 
 // A block, or none: `there` tells which. Where there is none the block is the empty one.

@@ -9,18 +9,19 @@ use native.Mathlib.Omega.{arith}
 use lib.ListN.{set}
 use Rattle.rules.specs.Common.{inOrder}
 use Rattle.rules.specs.Records.{NONE, Blocks, Heads, Tables, slotsOf}
-use Rattle.rules.specs.BlockTable.{insertAt}
+use Rattle.rules.specs.BlockTable.{adjust, insertAt}
 use Rattle.rules.specs.Caches.{slotOfHead, recomputeHead}
-use Rattle.rules.specs.Admission.{withTips, withArrivals, insertHead, moveUp, fork, placeHead, linkLate, linkTails, recomputeMissing, resolveTails, admitted, refreshTails}
+use Rattle.rules.specs.Admission.{oneMore, withTips, withArrivals, insertHead, moveUp, fork, placeHead, linkLate, linkTails, recomputeMissing, resolveTails, admitted, refreshTails}
 use Rattle.rules.specs.Calls.{newBlock, slotOrNone}
+use Rattle.rules.specs.Promises.{childrenOf}
 use Rattle.rules.proofs.Splits.{option?, true-not-false}
 use Rattle.rules.proofs.Kept.Table.{seqOf, countOf, hashOf, holds, onChain, setCount, Kept, holds-real}
-use Rattle.rules.proofs.Kept.Slots.{but-holds, count-but, count-kids}
+use Rattle.rules.proofs.Kept.Slots.{but-holds, count-but}
 use Rattle.rules.proofs.Kept.Steady.{Steady, steady-refl, steady-trans, steady-any, but-steady}
 use Rattle.rules.proofs.Kept.Seats.{tipOf, inUse, use-lt, Seat}
 use Rattle.rules.proofs.Kept.Frame.{Good, All, head-some}
 use Rattle.rules.proofs.Kept.Leaves.{children-bound}
-use Rattle.rules.proofs.Kept.Place.{Done, insert-done, again-seat, again-kept}
+use Rattle.rules.proofs.Kept.Place.{New, insert-done, again-seat, again-kept}
 use Rattle.rules.proofs.Kept.Insert.{insert, Fits, insert-but, insert-seq, insert-hash, insert-holds, insert-chain, insert-kids, insert-steady, insert-is, parent-not-self}
 use Rattle.rules.proofs.Kept.Arrive.{raise, raised, root-good, extend-good, fork-good}
 use Rattle.rules.proofs.Kept.LinkLoop.{all-keep}
@@ -60,18 +61,19 @@ module _ (t : Blocks) (h : Heads) (top x q : ℕ) (hash : List ℕ) (parent : Op
     bare : (r : ℕ) → inUse h r ≡ true → tipOf h r ≢ x
     bare r ur e = true-not-false {b = holds t x} (rw e at (g .frame .tips r ur .0)) (f .free)
 
-    placed : (v : Blocks) (w : Tables) → Steady NONE u v → Done v h w top x false All → Placed u top x w
-    placed v w y d = record { good = d .good; home = d .home; fresh = d .fresh; steady = steady-trans NONE u v (w .blocks) y (d .steady) }
+    seated : (v : Blocks) → New v h top x false (λ i. i ≢ x) → Steady NONE u v → Placed u top x (insertHead (record { blocks = v; heads = h }) x arrival x previous top)
+    seated v n y =
+        let d = insert-done v h top x arrival x previous false (λ i. i ≢ x) All (λ _ _ ne. ne) n in
+        record { good = d .good; home = d .home; fresh = d .fresh; steady = steady-trans NONE u v (insertHead (record { blocks = v; heads = h }) x arrival x previous top .blocks) y (d .steady) }
 
     place-root : p ≡ NONE → Placed u top x (insertHead (record { blocks = u; heads = h }) x arrival x previous top)
-    place-root e = placed u (insertHead (record { blocks = u; heads = h }) x arrival x previous top) (steady-refl NONE u)
-        (insert-done u h top x arrival x previous false (λ i. i ≢ x) All (λ _ _ ne. ne) (record {
-          good = root-good t h top x q hash p g f e;
-          home = insert-holds t x q hash p k f;
-          fresh = insert-chain t x q hash p k f;
-          bottom = insert-kids t x q hash p k f;
-          bare = bare;
-        }))
+    place-root e = seated _ (record {
+      good = root-good t h top x q hash p g f e;
+      home = insert-holds t x q hash p k f;
+      fresh = insert-chain t x q hash p k f;
+      bottom = insert-kids t x q hash p k f;
+      bare = bare;
+    }) (steady-refl NONE u)
 
     module _ (op : holds t p ≡ true) where
       low : onChain t p ≡ false → countOf t p < 255
@@ -80,20 +82,25 @@ module _ (t : Blocks) (h : Heads) (top x q : ℕ) (hash : List ℕ) (parent : Op
       ou : holds u p ≡ true
       ou = but-holds t u x (insert-but t x q hash p k f) p (parent-not-self t x q hash p k f) ∙ op
 
+      -- the parent has risen
+      abbrev v : Blocks
+      v = oneMore (record { blocks = u; heads = h }) p .blocks
+
+      pub risen : slotOfHead (h .tips) p ≡ none → Good v h top (λ i. i ≢ x)
+      risen n = rw (raised u p ou) (fork-good t h top x q hash p g f op n low)
+
+      risen-steady : Steady NONE u v
+      risen-steady = rw (raised u p ou) (but-steady NONE u (setCount u p (raise (countOf u p))) p (count-but u p (raise (countOf u p))) refl refl refl refl (λ _. refl))
+
       place-fork : slotOfHead (h .tips) p ≡ none → Placed u top x (fork (record { blocks = u; heads = h }) x p previous arrival top)
-      unfolding fork
-      place-fork n =
-          let c : ℕ = raise (countOf u p) in
-          let v : Blocks = setCount u p c in
-          rw (raised u p ou) (placed v (insertHead (record { blocks = v; heads = h }) x arrival x previous top)
-          (but-steady NONE u v p (count-but u p c) refl refl refl refl (λ _. refl))
-          (insert-done v h top x arrival x previous false (λ i. i ≢ x) All (λ _ _ ne. ne) (record {
-            good = fork-good t h top x q hash p g f op n low;
-            home = insert-holds t x q hash p k f;
-            fresh = insert-chain t x q hash p k f;
-            bottom = rw count-kids (insert-kids t x q hash p k f);
-            bare = bare;
-          })))
+      unfolding fork adjust childrenOf
+      place-fork n = seated _ (record {
+        good = risen n;
+        home = insert-holds t x q hash p k f;
+        fresh = insert-chain t x q hash p k f;
+        bottom = insert-kids t x q hash p k f;
+        bare = bare;
+      }) risen-steady
 
       place-up : (s : ℕ) → slotOfHead (h .tips) p ≡ some s → Placed u top x (moveUp (record { blocks = u; heads = h }) s x previous arrival)
       unfolding moveUp

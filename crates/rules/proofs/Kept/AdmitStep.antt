@@ -3,21 +3,22 @@ use mathlib.Core.Path.{_≡_, refl, sym, ap, _∙_}
 use mathlib.Core.Logic.{_≢_, _⊎_, inl, inr}
 use mathlib.Core.Bool.{true, not, _&&_}
 use mathlib.Core.List.{List}
-use mathlib.Core.Option.{Option, none, some}
-use Prim.Native.Nat.{ℕ, suc, _-_}
+use mathlib.Core.Option.{none, some}
+use Prim.Native.Nat.{ℕ, suc}
 use native.Mathlib.Omega.{arith}
 use lib.Dec.{eqb}
-use lib.ListN.{length}
 use borrow.Author.Tests.{eqb-true, eqb-false, eq-eqb, ne-eqb, not-true}
-use Rattle.rules.specs.Hashes.{hashLength, zeroHash, sameHash}
+use Rattle.rules.specs.Common.{isAt}
+use Rattle.rules.specs.Hashes.{sameHash}
 use Rattle.rules.specs.Records.{NONE, Blocks, Tables, slotsOf}
 use Rattle.rules.specs.BlockTable.{isBlock, find, nextFree, findParent}
 use Rattle.rules.specs.Answers.{slot}
-use Rattle.rules.specs.Calls.{State, Call, admitCall, keeping, answering, slotOrNone, admitAt, admit}
-use Rattle.rules.specs.Promises.{sequence, Occupied, Name, name, Sound}
-use Rattle.rules.proofs.Splits.{split, same?, option?, and-true, true-not-false, some-not-none}
+use Rattle.rules.specs.Calls.{State, Call, admitCall, keeping, slotOrNone, admitAt, takesSlot, admit}
+use Rattle.rules.specs.Promises.{sequence, Occupied, Name, name, slotReturned, Sound}
+use Rattle.rules.proofs.Splits.{split, same?, option?, not-some, and-true, true-not-false, some-not-none}
 use Rattle.rules.proofs.Search.{lowest-holds, lowest-misses}
 use Rattle.rules.proofs.Hashes.{same-refl}
+use Rattle.rules.proofs.Refusals.{Free, admit?}
 use Rattle.rules.proofs.Kept.Table.{seqOf, hashOf, holds, Shape, holds-lt, ne-holds, kids-slots}
 use Rattle.rules.proofs.Kept.Frame.{Good, All}
 use Rattle.rules.proofs.Kept.Insert.{Fits}
@@ -41,13 +42,13 @@ module _ (t : Blocks) (q : ℕ) (hash : List ℕ) (i : ℕ) where
   is-block o e h = rw (o, eq-eqb (seqOf t i) q e, h, same-refl hash) refl
 
 -- a parent stands one lower
-parent-is : (t : Blocks) (q : ℕ) (previous : List ℕ) (i : ℕ) → findParent (t .hashes) (t .sequences) previous q ≡ some i → (holds t i ≡ true) × (suc (seqOf t i) ≡ q)
+pub parent-is : (t : Blocks) (q : ℕ) (previous : List ℕ) (i : ℕ) → findParent (t .hashes) (t .sequences) previous q ≡ some i → (holds t i ≡ true) × (suc (seqOf t i) ≡ q)
 unfolding findParent find
 parent-is t q previous i e = same? q 0
     (λ z. some-not-none {o = none} {i = i} (rw (eq-eqb q 0 z) at e) refl)
     (λ nz.
-    let b = lowest-holds (isBlock (t .hashes) (t .sequences) (q - 1) previous) (slotsOf (t .sequences)) i (rw (ne-eqb q 0 nz) at e) in
-    let c = block-is t (q - 1) previous i (b .1) in
+    let b = lowest-holds _ _ i (rw (ne-eqb q 0 nz) at e) in
+    let c = block-is t _ previous i (b .1) in
     let r = c .1 in
     (c .0, omega arith))
 
@@ -58,8 +59,7 @@ parent-fits t q previous = option? (findParent (t .hashes) (t .sequences) previo
 
 -- ---- the call is accepted
 
-module _ (s : State) (q : ℕ) (hash previous : List ℕ) (arrival x : ℕ) (z : Sound s) (len : length hash ≡ hashLength) (real : q ≢ NONE)
-    (unknown : find (s .tables .blocks .hashes) (s .tables .blocks .sequences) q hash ≡ none) (next : nextFree (s .tables .blocks .sequences) ≡ some x) where
+module _ (s : State) (q : ℕ) (hash previous : List ℕ) (arrival x : ℕ) (z : Sound s) (k : Free s q hash x) where
   abbrev t : Blocks
   t = blocksOf s
 
@@ -69,15 +69,15 @@ module _ (s : State) (q : ℕ) (hash previous : List ℕ) (arrival x : ℕ) (z :
   sh : Shape t
   sh = g .frame .counts .shape
 
-  fits : Fits t x q hash (slotOrNone (findParent (t .hashes) (t .sequences) previous q))
+  pub fits : Fits t x q hash (slotOrNone (findParent (t .hashes) (t .sequences) previous q))
   unfolding nextFree
   fits =
-      let b = lowest-holds (λ i. not (holds t i)) (slotsOf (t .sequences)) x next in
+      let b = lowest-holds (λ i. not (holds t i)) (slotsOf (t .sequences)) x (k .next) in
       record {
         inside = rw (kids-slots t sh) at (b .0);
         free = not-true (holds t x) (b .1);
-        seqOk = real;
-        len = len;
+        seqOk = k .real;
+        len = k .len;
         parentOk = parent-fits t q previous;
       }
 
@@ -111,7 +111,7 @@ module _ (s : State) (q : ℕ) (hash previous : List ℕ) (arrival x : ℕ) (z :
       let oj = ne-holds t j (p .0) in
       true-not-false {b = isBlock (t .hashes) (t .sequences) q hash j}
       (is-block t q hash j oj (ap (λ (y : Name). y .sequence) n) (ap (λ (y : Name). y .hash) n))
-      (lowest-misses (isBlock (t .hashes) (t .sequences) q hash) (slotsOf (t .sequences)) j unknown (rw (kids-slots t sh) (holds-lt t j oj)))
+      (lowest-misses (isBlock (t .hashes) (t .sequences) q hash) (slotsOf (t .sequences)) j (not-some (find (t .hashes) (t .sequences) q hash) (k .unknown)) (rw (kids-slots t sh) (holds-lt t j oj)))
 
   names : (i j : ℕ) → Occupied u i → Occupied u j → name u i ≡ name u j → i ≡ j
   names i j oi oj e = same? i x
@@ -125,7 +125,7 @@ module _ (s : State) (q : ℕ) (hash previous : List ℕ) (arrival x : ℕ) (z :
       let r = other j b oj in
       z .tree .names i j (p .0) (r .0) (sym (p .1) ∙ e ∙ r .1)))
 
-  pub admitted-went : Went (admitCall q hash previous arrival) s (answering u (slot x))
+  admitted-went : Went (admitCall q hash previous arrival) s (takesSlot s x q hash previous arrival)
   unfolding given-name
   admitted-went =
       let free = fits .free in
@@ -136,32 +136,20 @@ module _ (s : State) (q : ℕ) (hash previous : List ℕ) (arrival x : ℕ) (z :
         stays = active-stays s (z .tree .line) sh w x free y;
         new = λ i e _. let c : _≡_ {A = ℕ} 0 1 = cc in absurd (omega arith);
         only = λ i a. inl (active-was s (z .tree .line) sh w x free y v i a);
-        given = λ i was o h. same? x i
-            (λ e. rw (eq-eqb x i e) (ap some (sym own) ∙ (rw e refl)))
-            (λ ne. let p = other i (λ e. ne (sym e)) o in rw (ne-eqb x i ne) (h (p .0) ∙ ap some (sym (p .1))));
+        given = λ i was o h. split (isAt (slotReturned (takesSlot s x q hash previous arrival .answer)) i)
+            (λ e. rw e (ap some (sym own ∙ ap (name u) (eqb-true x i e))))
+            (λ e. let p = other i (λ c. eqb-false x i e (sym c)) o in rw e (h (p .0) ∙ ap some (sym (p .1))));
       }
 
--- ---- the refusals
-
-module _ (s : State) (q : ℕ) (hash previous : List ℕ) (arrival : ℕ) (z : Sound s) where
+module _ (s : State) (q : ℕ) (hash previous : List ℕ) (arrival : ℕ) where
   abbrev c : Call
   c = admitCall q hash previous arrival
 
-  abbrev known : Option ℕ
-  known = find (s .tables .blocks .hashes) (s .tables .blocks .sequences) q hash
+  pub went-admit : Sound s → Went c s (admit s q hash previous arrival)
+  went-admit z = admit? s q hash previous arrival (Went c s) (λ n _. turned-away c s n z) (λ x k. admitted-went s q hash previous arrival x z k)
 
-  pub went-admit : Went c s (admit s q hash previous arrival)
-  unfolding admit
-  went-admit = rw (z .tree .shape) (split (eqb (length hash) hashLength && eqb (length previous) hashLength)
-      (λ e2. split (eqb q NONE)
-      (λ e4. rw (e2, e4) (turned-away c s 4 z))
-      (λ e4. split (sameHash hash zeroHash)
-      (λ e5. rw (e2, e4, e5) (turned-away c s 5 z))
-      (λ e5. option? known
-      (λ e6. option? (nextFree (s .tables .blocks .sequences))
-      (λ e7. rw (e2, e4, e5, e6, e7) (turned-away c s 7 z))
-      (λ x e7. rw (e2, e4, e5, e6, e7)
-      (admitted-went s q hash previous arrival x z (eqb-true (length hash) hashLength (and-true (eqb (length hash) hashLength) (eqb (length previous) hashLength) e2 .0))
-      (eqb-false q NONE e4) e6 e7)))
-      (λ i e6. rw (e2, e4, e5, e6) (turned-away c s 6 z)))))
-      (λ e2. rw e2 (turned-away c s 2 z)))
+  -- what it found and did is told from its answer
+  pub admit-slot : (x : ℕ) → admit s q hash previous arrival .answer ≡ slot x → Free s q hash x × (admit s q hash previous arrival ≡ takesSlot s x q hash previous arrival)
+  admit-slot x = admit? s q hash previous arrival (λ w. w .answer ≡ slot x → Free s q hash x × (w ≡ takesSlot s x q hash previous arrival))
+      (λ n _ e. let o : _≡_ {A = ℕ} 0 1 = cc in absurd (omega arith))
+      (λ y k e. let o : y ≡ x = cc in (rw (← o) k, rw o refl))

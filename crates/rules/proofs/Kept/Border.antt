@@ -3,16 +3,15 @@ use mathlib.Core.Path.{_≡_, refl}
 use mathlib.Core.Logic.{_≢_, _⊎_, inl, inr}
 use mathlib.Core.Bool.{true}
 use Prim.Native.Nat.{ℕ}
-use Rattle.rules.specs.Records.{NONE, Blocks}
+use Rattle.rules.specs.Records.{NONE}
 use Rattle.rules.specs.Calls.{State}
 use Rattle.rules.specs.Promises.{Occupied, Active, OnLine, start, down, name, Sound, Tree}
 use Rattle.rules.proofs.Splits.{split}
 use Rattle.rules.proofs.Kept.Table.{holds-real, Linked, parentOf, holds, onChain, holds-ne, ne-holds, empty-eq}
-use Rattle.rules.proofs.Kept.Seats.{use-lt, tipOf, inUse, use-ne, ne-use, free-eq}
+use Rattle.rules.proofs.Kept.Seats.{tipOf, inUse, use-ne, ne-use, free-eq}
 use Rattle.rules.proofs.Kept.Frame.{Chained, Good, All}
 use Rattle.rules.proofs.Kept.Slots.{Voids}
 use Rattle.rules.proofs.Kept.Leaves.{children-bound}
-use Rattle.rules.proofs.Kept.EvictHead.{victim-there}
 use Rattle.rules.proofs.Kept.Walked.{blocksOf, headsOf, active-on, on-active, idle-off, off-idle}
 use Rattle.rules.proofs.Kept.Shaped.{shaped-is, shaped-shape}
 use Rattle.rules.proofs.Kept.Anchors.{ends-anchored, anchored-ends}
@@ -85,8 +84,5 @@ good-sound s g line top names =
       different = λ j k uj uk q. f .apart j k (ne-use h j uj) (ne-use h k uk) q;
       anchored = λ k u. ends-anchored s k sh (f .counts .linked) (f .tips k (ne-use h k u) .0) (g .anchored k (ne-use h k u));
       emptyHeads = λ k no. f .blanks k (split (inUse h k) (λ u. absurd (no (use-ne h k u))) (λ e. e));
-      victims = λ hashes sequences full.
-          let v : Blocks = record { hashes = hashes; parents = t .parents; sequences = sequences; counts = t .counts; flags = t .flags } in
-          victim-there v h (s .activeHead) (f .roomy) (f .apart) (λ k u. ne-holds v (tipOf h k) (full k (use-lt h k u) .1)) (λ k l. ne-use h k (full k l .0));
       few = λ i o. children-bound t h (s .activeHead) All f (λ _. tt) i (holds-real t i sh (ne-holds t i o));
     }

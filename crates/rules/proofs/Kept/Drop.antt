@@ -5,15 +5,13 @@ use mathlib.Core.List.{List}
 use mathlib.Core.Option.{Option}
 use Prim.Native.Nat.{ℕ, zero, suc, _≤_, _<_}
 use native.Mathlib.Omega.{arith}
-use lib.ListN.{set}
 use Rattle.rules.specs.Common.{isAt, inOrder}
 use Rattle.rules.specs.Records.{NONE, Heads, emptyHead}
-use Rattle.rules.specs.Admission.{withTips}
 use Rattle.rules.specs.Removal.{headFreed, dropHead}
 use Rattle.rules.specs.Promises.{headAt}
 use Rattle.rules.proofs.Splits.{split, same?}
 use Rattle.rules.proofs.Kept.Bytes.{zero-length}
-use Rattle.rules.proofs.Kept.Seats.{same-head, room, tipOf, Room, Seat, clear, clear-seat, put-head}
+use Rattle.rules.proofs.Kept.Seats.{same-head, room, tipOf, Room, Seat, clear-seat, put-head}
 use Rattle.rules.proofs.Kept.Cached.{tip-seat}
 
 module _ (l : List ℕ) (moving : Option ℕ) (p : ℕ) where
@@ -54,10 +52,10 @@ module _ (l : List ℕ) (moving : Option ℕ) (p : ℕ) where
     turn : Dropped (suc k) h (dropHead l moving p k u)
     unfolding dropHead
     turn = split (isAt moving k)
-        (λ a. rw a (next (withTips u (set (u .tips) k p)) p (tip-seat u k p) (λ r n. moved a (tip-seat u k p .here (rw (d .rooms) n)))))
+        (λ a. rw a (next _ p (tip-seat u k p) (λ r n. moved a (tip-seat u k p .here (rw (d .rooms) n)))))
         (λ a. split (headFreed l (u .tips) k)
-        (λ f. rw (a, f) (next (clear u k) NONE (clear-seat u k)
-        (λ r n. emptied a (sym (freed-same h u k (d .later k (omega arith))) ∙ f) (put-head u k emptyHead zero-length (d .roomy r) (rw (d .rooms) n)))))
+        (λ f. rw (a, f) (next _ NONE (clear-seat u k)
+        (λ r n. emptied a (sym (freed-same h u k (d .later k (omega arith))) ∙ f) (put-head u k _ zero-length (d .roomy r) (rw (d .rooms) n)))))
         (λ f. rw (a, f) (record {
           rooms = d .rooms;
           roomy = d .roomy;

@@ -8,7 +8,7 @@ use Prim.Native.Nat.{ℕ, _<_}
 use native.Mathlib.Omega.{arith}
 use lib.Dec.{eqb}
 use borrow.Author.Tests.{eqb-false, ne-eqb, not-true}
-use Rattle.rules.specs.Records.{NONE, Blocks, Heads, tipAt, slotsOf, occupied, used}
+use Rattle.rules.specs.Records.{NONE, Blocks, Heads, tipAt, slotsOf, occupied, used, clear}
 use Rattle.rules.specs.Eviction.{blockBefore, mayGo, victim, evictFrom, evict, evictOne}
 use Rattle.rules.specs.Promises.{childrenOf}
 use Rattle.rules.proofs.Splits.{same?, and-true, true-not-false}
@@ -16,7 +16,7 @@ use Rattle.rules.proofs.Kept.Choice.{best-passes, best-none}
 use Rattle.rules.proofs.Kept.Table.{size, holds, Shape, kids-slots}
 use Rattle.rules.proofs.Kept.Freed.{Owed, Freed, all-freed, freed-kept}
 use Rattle.rules.proofs.Kept.Steady.{freed-leaf, freed-back, freed-active, freed-childless, freed-ends}
-use Rattle.rules.proofs.Kept.Seats.{room, tipOf, inUse, kept, Room, head-slots, clear, clear-seat, clear-other, clear-blanks, seat-tip, seat-use, seat-kept}
+use Rattle.rules.proofs.Kept.Seats.{room, tipOf, inUse, kept, Room, head-slots, clear-seat, clear-other, clear-blanks, seat-tip, seat-use, seat-kept}
 use Rattle.rules.proofs.Kept.Frame.{Good, Apart}
 
 module _ (t : Blocks) (h : Heads) (top : ℕ) (C : ℕ → Type 0) (g : Good t h top C) (v : ℕ) (uv : inUse h v ≡ true) (nv : tipOf h v ≢ top) where
@@ -80,7 +80,7 @@ module _ (hashes sequences tips : List ℕ) (top : ℕ) where
   pub victim-some : (v : ℕ) → victim hashes sequences tips top ≡ some v → (used tips v ≡ true) × (tipAt tips v ≢ top)
   unfolding victim mayGo
   victim-some v e =
-      let b = best-passes (mayGo sequences tips top) (λ j k. blockBefore hashes sequences (tipAt tips j) (tipAt tips k)) (slotsOf tips) v e in
+      let b = best-passes (mayGo sequences tips top) (λ j k. blockBefore hashes sequences (tipAt tips j) (tipAt tips k)) _ v e in
       let c = and-true (used tips v && not (eqb (tipAt tips v) top)) (occupied sequences (tipAt tips v)) (b .1) in
       let d = and-true (used tips v) (not (eqb (tipAt tips v) top)) (c .0) in
       (d .0, eqb-false (tipAt tips v) top (not-true (eqb (tipAt tips v) top) (d .1)))
@@ -90,7 +90,7 @@ module _ (hashes sequences tips : List ℕ) (top : ℕ) where
   victim-none e s l u o = same? (tipAt tips s) top (λ q. q) (λ ne.
       true-not-false {b = mayGo sequences tips top s}
       (rw (u, ne-eqb (tipAt tips s) top ne, o))
-      (best-none (mayGo sequences tips top) (λ j k. blockBefore hashes sequences (tipAt tips j) (tipAt tips k)) (slotsOf tips) s e l))
+      (best-none (mayGo sequences tips top) (λ j k. blockBefore hashes sequences (tipAt tips j) (tipAt tips k)) _ s e l))
 
 -- of two heads one is not the active one
 pub victim-there : (t : Blocks) (h : Heads) (top : ℕ) → Room h → Apart h → ((s : ℕ) → inUse h s ≡ true → holds t (tipOf h s) ≡ true)

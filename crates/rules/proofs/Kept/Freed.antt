@@ -8,14 +8,14 @@ use lib.IntN.{negsuc}
 use lib.Seq.{set-set}
 use borrow.Author.Tests.{ne-eqb}
 use Rattle.rules.specs.Common.{countBelow}
-use Rattle.rules.specs.Records.{Blocks, putBlock}
+use Rattle.rules.specs.Records.{Blocks, putBlock, erase}
 use Rattle.rules.specs.BlockTable.{adjusted, adjustCounts, adjust, delete}
 use Rattle.rules.specs.Eviction.{evictFrom}
 use Rattle.rules.specs.Promises.{childrenOf}
 use Rattle.rules.proofs.Splits.{split, same?, true-not-false}
 use Rattle.rules.proofs.Kept.Counting.{zero?, count-drop, count-le}
 use Rattle.rules.proofs.Kept.Table.{size, parentOf, countOf, holds, onChain, setCount, Shape, Linked, Kept, holds-lt, childless}
-use Rattle.rules.proofs.Kept.Slots.{but-seq, but-parent, but-count, but-chain, but-holds, erase, erase-but, erase-empty, erase-kids-other, erase-kids-parent, count-but, count-here, count-kids, Voids, but-voids, erase-voids}
+use Rattle.rules.proofs.Kept.Slots.{but-seq, but-parent, but-count, but-chain, but-holds, erase-but, erase-empty, erase-kids-other, erase-kids-parent, count-but, count-here, count-kids, Voids, but-voids, erase-voids}
 
 -- ---- the walk, case by case
 

@@ -1,7 +1,7 @@
 -- The heads that removal leaves (01, "Removal").
 use mathlib.Core.Path.{_≡_, refl, sym, ap, _∙_}
 use mathlib.Core.Logic.{_≢_, _⊎_, inl, inr}
-use mathlib.Core.Bool.{true, false, not, _&&_}
+use mathlib.Core.Bool.{Bool, true, false, not, _&&_}
 use mathlib.Core.List.{List}
 use mathlib.Core.Option.{Option, none}
 use Prim.Native.Nat.{ℕ, _<_}
@@ -9,13 +9,13 @@ use native.Mathlib.Omega.{arith}
 use lib.Dec.{eqb}
 use borrow.Author.Tests.{eqb-true, eq-eqb, not-true}
 use Rattle.rules.specs.Common.{isSome, isAt, lowest}
-use Rattle.rules.specs.Records.{NONE, Blocks, Heads, Tables, slotsOf, used, emptyHead}
+use Rattle.rules.specs.Records.{NONE, Blocks, Heads, slotsOf, used, emptyHead}
 use Rattle.rules.specs.BlockTable.{childless, children}
 use Rattle.rules.specs.Caches.{slotOfHead}
 use Rattle.rules.specs.Removal.{listed, headFreed, takesOver, heir, dropHeads}
 use Rattle.rules.specs.Promises.{childrenOf, headAt}
 use Rattle.rules.specs.declared.Head.{Head}
-use Rattle.rules.proofs.Splits.{split, less?, option?, and-true, and-both, true-not-false}
+use Rattle.rules.proofs.Splits.{split, less?, option?, not-some, and-true, and-both, true-not-false}
 use Rattle.rules.proofs.Search.{lowest-holds, lowest-found}
 use Rattle.rules.proofs.Kept.Counting.{zero?}
 use Rattle.rules.proofs.Kept.Table.{parentOf, holds, onChain, holds-real}
@@ -37,41 +37,39 @@ module _ (t u : Blocks) (h : Heads) (top r : ℕ) (deleted : List ℕ) (f : Fram
   abbrev p : ℕ
   p = parentOf t r
 
-  abbrev v : Tables
-  v = record { blocks = u; heads = h }
+  abbrev takes-over : Bool
+  takes-over = takesOver (u .parents) (u .sequences) (h .tips) p
 
   abbrev moving : Option ℕ
-  moving = heir v deleted p
+  moving = heir (u .parents) (u .sequences) (h .tips) deleted p
 
   abbrev pub h2 : Heads
   h2 = dropHeads deleted moving p h
 
-  over : takesOver v p ≡ true → (holds u p ≡ true) × (slotOfHead (h .tips) p ≡ none) × (childrenOf u p ≡ 0)
+  over : takes-over ≡ true → (holds u p ≡ true) × (slotOfHead (h .tips) p ≡ none) × (childrenOf u p ≡ 0)
   unfolding takesOver childless
   over e =
       let c = and-true (holds u p && not (isSome (slotOfHead (h .tips) p))) (eqb (children (u .parents) (u .sequences) p) 0) e in
       let d = and-true (holds u p) (not (isSome (slotOfHead (h .tips) p))) (c .0) in (
         d .0,
-        option? (slotOfHead (h .tips) p)
-            (λ n. n)
-            (λ k q. true-not-false {b = isSome (slotOfHead (h .tips) p)} (rw q refl) (not-true (isSome (slotOfHead (h .tips) p)) (d .1))),
+        not-some (slotOfHead (h .tips) p) (not-true (isSome (slotOfHead (h .tips) p)) (d .1)),
         sym (kids-are u (lf .shape) p) ∙ eqb-true (children (u .parents) (u .sequences) p) 0 (c .1),
       )
 
-  takes : holds u p ≡ true → slotOfHead (h .tips) p ≡ none → childrenOf u p ≡ 0 → takesOver v p ≡ true
+  takes : holds u p ≡ true → slotOfHead (h .tips) p ≡ none → childrenOf u p ≡ 0 → takes-over ≡ true
   unfolding takesOver childless
   takes o n z = rw (o, n, kids-are u (lf .shape) p, z) refl
 
-  heir-yes : takesOver v p ≡ true → moving ≡ lowest (headFreed deleted (h .tips)) (slotsOf (h .tips))
+  heir-yes : takes-over ≡ true → moving ≡ lowest (headFreed deleted (h .tips)) (slotsOf (h .tips))
   unfolding heir
   heir-yes e = rw e
 
-  heir-no : takesOver v p ≡ false → moving ≡ none
+  heir-no : takes-over ≡ false → moving ≡ none
   unfolding heir
   heir-no e = rw e
 
-  heir-some : (k : ℕ) → isAt moving k ≡ true → (takesOver v p ≡ true) × (headFreed deleted (h .tips) k ≡ true)
-  heir-some k a = split (takesOver v p)
+  heir-some : (k : ℕ) → isAt moving k ≡ true → (takes-over ≡ true) × (headFreed deleted (h .tips) k ≡ true)
+  heir-some k a = split takes-over
       (λ e. option? (lowest (headFreed deleted (h .tips)) (slotsOf (h .tips)))
       (λ n. true-not-false {b = isAt moving k} a (rw (heir-yes e, n) refl))
       (λ i n.
@@ -140,7 +138,7 @@ module _ (t u : Blocks) (h : Heads) (top r : ℕ) (deleted : List ℕ) (f : Fram
   ]
 
   -- the heir stands on the root's parent
-  heir-there : takesOver v p ≡ true → (k : ℕ) × (inUse h2 k ≡ true) × (tipOf h2 k ≡ p)
+  heir-there : takes-over ≡ true → (k : ℕ) × (inUse h2 k ≡ true) × (tipOf h2 k ≡ p)
   unfolding headFreed
   heir-there e = option? (lowest (headFreed deleted (h .tips)) (slotsOf (h .tips)))
       (λ n.
@@ -176,7 +174,7 @@ module _ (t u : Blocks) (h : Heads) (top r : ℕ) (deleted : List ℕ) (f : Fram
   apart-left : (j k : ℕ) → inUse h2 j ≡ true → inUse h2 k ≡ true → tipOf h2 j ≡ tipOf h2 k → j ≡ k
   apart-left j k uj uk q = go (fate j uj) (fate k uk)
     where
-      bare : (i : ℕ) → takesOver v p ≡ true → inUse h i ≡ true → tipOf h i ≢ p
+      bare : (i : ℕ) → takes-over ≡ true → inUse h i ≡ true → tipOf h i ≢ p
       bare i e ui = head-none h p i (f .roomy) (over e .1) ui
 
       go : Fate j → Fate k → j ≡ k

@@ -7,7 +7,7 @@ use Prim.Native.Nat.{ℕ, suc}
 use native.Mathlib.Omega.{arith}
 use lib.Dec.{eqb}
 use borrow.Author.Tests.{eq-eqb, ne-eqb}
-use Rattle.rules.specs.Records.{NONE, Blocks, Heads}
+use Rattle.rules.specs.Records.{NONE, Blocks, Heads, clear}
 use Rattle.rules.specs.Anchor.{Anchor, tail}
 use Rattle.rules.specs.Caches.{slotOfHead}
 use Rattle.rules.specs.Promises.{isChild, childrenOf}
@@ -15,7 +15,7 @@ use Rattle.rules.proofs.Splits.{same?, and-false-r}
 use Rattle.rules.proofs.Kept.Table.{seqOf, parentOf, countOf, holds, onChain, setCount, setParent, Shape, Linked, holds-lt, holds-ne, holds-real}
 use Rattle.rules.proofs.Kept.Slots.{But, but-parent, but-count, but-kids, but-gains, count-but, count-here, count-kids, parent-but, parent-here, Voids, but-voids}
 use Rattle.rules.proofs.Kept.Ends.{Ends, at-active, at-root, goes-on}
-use Rattle.rules.proofs.Kept.Seats.{tipOf, inUse, kept, clear, clear-seat, clear-other, clear-blanks, seat-tip, seat-use}
+use Rattle.rules.proofs.Kept.Seats.{tipOf, inUse, kept, clear-seat, clear-other, clear-blanks, seat-tip, seat-use}
 use Rattle.rules.proofs.Kept.Frame.{Frame, Late, Apt, All, Chained, head-none, anchor?}
 
 -- the tail T waits for x

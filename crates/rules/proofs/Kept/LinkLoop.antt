@@ -9,7 +9,7 @@ use native.Mathlib.Omega.{arith}
 use lib.Dec.{eqb}
 use borrow.Author.Tests.{eqb-true}
 use Rattle.rules.specs.Common.{inOrder}
-use Rattle.rules.specs.Records.{NONE, Blocks, Heads, Tables, tailAt}
+use Rattle.rules.specs.Records.{NONE, Blocks, Heads, Tables, tailAt, clear}
 use Rattle.rules.specs.BlockTable.{resolveParent}
 use Rattle.rules.specs.Caches.{slotOfHead}
 use Rattle.rules.specs.Admission.{misses, late, joined, link, linkLate}
@@ -18,7 +18,7 @@ use Rattle.rules.proofs.Splits.{split, option?, and-true}
 use Rattle.rules.proofs.Kept.Table.{seqOf, parentOf, countOf, holds, onChain, setCount, setParent, holds-real}
 use Rattle.rules.proofs.Kept.Slots.{count-but, parent-but}
 use Rattle.rules.proofs.Kept.Steady.{Steady, steady-trans, but-steady, ends-same}
-use Rattle.rules.proofs.Kept.Seats.{tipOf, kept, clear, clear-seat, clear-other, seat-tip}
+use Rattle.rules.proofs.Kept.Seats.{tipOf, kept, clear-seat, clear-other, seat-tip}
 use Rattle.rules.proofs.Kept.Frame.{Frame, Late, Apt, All, head-some}
 use Rattle.rules.proofs.Kept.Leaves.{children-bound}
 use Rattle.rules.proofs.Kept.Arrive.{raise, raised, raise-suc}

@@ -13,6 +13,7 @@ use Rattle.rules.proofs.Kept.Went.{Went}
 use Rattle.rules.proofs.Kept.Steps.{went-remove, went-restart, went-timer}
 use Rattle.rules.proofs.Kept.PromoteStep.{went-promote}
 use Rattle.rules.proofs.Kept.AdmitStep.{went-admit}
+use Rattle.rules.proofs.Kept.Victims.{finds-victims}
 
 pub step-went : (call : Call) (s : State) → Sound s → Went call s (step s call)
 unfolding step
@@ -126,4 +127,5 @@ list-promise log s z r calls =
           let q = list-stays more (run s calls) (k .0) i (k .1 .promoted i .1 p) in
           let v = list-sound more (run s calls) (k .0) in
           rw (run-append calls more s) (v .tree .line i (q .0) .0, q .0, q .1);
+      victims = λ call. finds-victims (run s calls) (k .0) call;
     }

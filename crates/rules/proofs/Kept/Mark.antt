@@ -7,12 +7,12 @@ use Prim.Native.Nat.{ℕ, zero, suc, _+_, _<_}
 use native.Mathlib.Omega.{arith}
 use lib.Dec.{eqb}
 use borrow.Author.Tests.{eqb-true, eq-eqb}
-use Rattle.rules.specs.Common.{if_then_else_, isSome, lowest, allBelow}
+use Rattle.rules.specs.Common.{if_then_else_, lowest, allBelow}
 use Rattle.rules.specs.Records.{NONE, Blocks, slotsOf}
 use Rattle.rules.specs.BlockTable.{reaches, inSubtree, markSubtree}
 use Rattle.rules.specs.Removal.{listed}
 use Rattle.rules.specs.Calls.{holdsActive}
-use Rattle.rules.proofs.Splits.{split, same?, option?, and-true, true-not-false}
+use Rattle.rules.proofs.Splits.{split, same?, not-some, and-true, true-not-false}
 use Rattle.rules.proofs.Search.{lowest-misses, all-fails}
 use Rattle.rules.proofs.Walks.{reaches-root, reaches-end, reaches-up}
 use Rattle.rules.proofs.Kept.Counting.{zero?}
@@ -118,6 +118,6 @@ module _ (t : Blocks) (r : ℕ) (s : Shape t) (l : Linked t) where
     -- where removal is not refused, no marked block is active
     pub mark-off : holdsActive t r ≡ false → (j : ℕ) → mark j ≡ true → onChain t j ≡ false
     unfolding holdsActive
-    mark-off e j m = option? (lowest (λ i. mark i && onChain t i) (slotsOf (t .sequences)))
-        (λ n. rw m at (lowest-misses (λ i. mark i && onChain t i) (slotsOf (t .sequences)) j n (rw (kids-slots t s) (holds-lt t j (mark-holds j m)))))
-        (λ i n. true-not-false {b = isSome (lowest (λ i. mark i && onChain t i) (slotsOf (t .sequences)))} (rw n refl) e)
+    mark-off e j m =
+        let n = not-some (lowest (λ i. mark i && onChain t i) _) e in
+        rw m at (lowest-misses (λ i. mark i && onChain t i) _ j n (omega (arith, kids-slots t s, holds-lt t j (mark-holds j m))))

@@ -10,6 +10,7 @@ use Rattle.rules.proofs.Kept.Rebuild.{Trunk, restart-done}
 use Rattle.rules.proofs.Kept.Walked.{blocksOf, headsOf}
 use Rattle.rules.proofs.Kept.Shaped.{shaped-shape}
 use Rattle.rules.proofs.Kept.Border.{line-chained, tree-linked, tree-voids, good-sound}
+use Rattle.rules.proofs.Kept.Victims.{restart-finds}
 use Rattle.rules.proofs.Kept.Went.{active-stays, line-on, top-on, names-on}
 
 pub restart-mends : (s : State) → Tree s → ((i : ℕ) → Occupied s i → children s i ≤ 255) → (now : ℕ) → Mended s now
@@ -33,4 +34,5 @@ restart-mends s z few now =
     record {
       sound = rw (z .shape) (good-sound u (d .0) (line-on s (z .line) sh w NONE free y (d .0 .frame .voids)) (top-on s (z .line) sh w NONE free y (z .top)) (names-on s (z .line) sh w NONE free y old (z .names)));
       stays = λ i a. rw (z .shape) (active-stays s (z .line) sh w NONE free y i a);
+      victims = restart-finds s ro b now;
     }

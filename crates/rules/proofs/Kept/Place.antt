@@ -6,11 +6,11 @@ use mathlib.Core.List.{List}
 use mathlib.Core.Option.{none, some}
 use Prim.Native.Nat.{ℕ, _<_}
 use borrow.Author.Tests.{not-true, not-false}
-use Rattle.rules.specs.Records.{NONE, Blocks, Heads, Tables, slotsOf, putHead}
+use Rattle.rules.specs.Records.{NONE, Blocks, Heads, Tables, slotsOf, putHead, clear}
 use Rattle.rules.specs.Caches.{recomputeHead}
 use Rattle.rules.specs.Eviction.{victim, evictFrom}
 use Rattle.rules.specs.Admission.{firstEmpty, newHead, seatHead, makeRoom, insertHead}
-use Rattle.rules.specs.Promises.{childrenOf}
+use Rattle.rules.specs.Promises.{childrenOf, VictimIfFull}
 use Rattle.rules.proofs.Splits.{same?, option?, true-not-false}
 use Rattle.rules.proofs.Search.{lowest-holds, lowest-misses}
 use Rattle.rules.proofs.Kept.Bytes.{zero-length}
@@ -18,7 +18,7 @@ use Rattle.rules.proofs.Kept.Table.{size, holds, onChain, Shape}
 use Rattle.rules.proofs.Kept.Ends.{located, anchor-ends}
 use Rattle.rules.proofs.Kept.Freed.{Freed}
 use Rattle.rules.proofs.Kept.Steady.{Steady, steady-refl, steady-trans, freed-leaf, freed-back, freed-steady, freed-size}
-use Rattle.rules.proofs.Kept.Seats.{room, tipOf, inUse, kept, Room, use-lt, head-slots, Seat, seat-tip, seat-use, put-seat, clear, clear-seat, clear-here, clear-other}
+use Rattle.rules.proofs.Kept.Seats.{room, tipOf, inUse, kept, Room, use-lt, head-slots, Seat, seat-tip, seat-use, put-seat, clear-seat, clear-here, clear-other}
 use Rattle.rules.proofs.Kept.Frame.{Good, seat-good}
 use Rattle.rules.proofs.Kept.EvictHead.{trace, evict-good, victim-some, victim-there, evict-one}
 use Rattle.rules.proofs.Kept.Cached.{recompute-seat, recompute-kept}
@@ -142,6 +142,10 @@ room-made : (t : Blocks) (h : Heads) (top v : ℕ) → Shape t → firstEmpty (h
 unfolding makeRoom
 room-made t h top v s e f = rw (e, makeRoom) (evict-one t h top v s f)
 
+pub full-victim : (t : Blocks) (h : Heads) (top : ℕ) (C : ℕ → Type 0) → Good t h top C → VictimIfFull (record { blocks = t; heads = h }) top
+full-victim t h top C g c = let f = g .frame in
+    victim-there t h top (f .roomy) (f .apart) (λ r u. f .tips r u .0) (λ r l. empty-none h r (f .roomy) c l)
+
 pub insert-done : (t : Blocks) (h : Heads) (top x arrival arriving : ℕ) (previous : List ℕ) (b : Bool) (C D : ℕ → Type 0) (cd : (i : ℕ) → D i → i ≢ x → C i)
     → New t h top x b C → Done t h (insertHead (record { blocks = t; heads = h }) x arrival arriving previous top) top x b D
 unfolding insertHead
@@ -150,7 +154,7 @@ insert-done t h top x arrival arriving previous b C D cd n =
     let s = f .counts .shape in
     option? (firstEmpty (h .tips))
     (λ c. option? (victim (t .hashes) (t .sequences) (h .tips) top)
-    (λ e. absurd (victim-there t h top (f .roomy) (f .apart) (λ r u. f .tips r u .0) (λ r l. empty-none h r (f .roomy) c l) e))
+    (λ e. absurd (full-victim t h top C (n .good) c e))
     (λ v e.
     let w = victim-some (t .hashes) (t .sequences) (h .tips) top v e in
     let u : Blocks = evictFrom (size t) t (tipOf h v) in

@@ -2,13 +2,13 @@
 use mathlib.Core.Path.{_≡_, refl, sym, _∙_, subst}
 use mathlib.Core.Logic.{_≢_, _⊎_, inl, inr}
 use mathlib.Core.Bool.{true, false}
-use Prim.Native.Nat.{ℕ, zero, suc, _+_, _*_, _/_, _%_, _<_}
+use Prim.Native.Nat.{ℕ, zero, suc, _%_, _<_}
 use native.Mathlib.Omega.{arith}
-use lib.ListN.{set, length-set}
+use lib.ListN.{length, length-set}
 use lib.Seq.{getD-set-same, getD-set-other, set-set}
 use borrow.Author.Tests.{eq-eqb}
-use Rattle.rules.specs.Records.{NONE, Blocks, Heads, active, flagsAt, withBit0, withStatus, blockAt}
-use Rattle.rules.specs.BlockTable.{setOccupied, setOnActiveChain, setStatus, withFlags}
+use Rattle.rules.specs.Records.{NONE, Blocks, Heads, active, flagsAt, withStatus, blockAt}
+use Rattle.rules.specs.BlockTable.{setOccupied, setOnActiveChain, setStatus}
 use Rattle.rules.specs.Promotion.{activate}
 use Rattle.rules.specs.Promises.{childrenOf}
 use Rattle.rules.proofs.Splits.{same?, true-not-false}
@@ -17,44 +17,32 @@ use Rattle.rules.proofs.Kept.Slots.{But, but-chain, but-voids}
 use Rattle.rules.proofs.Kept.Ends.{height, height-falls}
 use Rattle.rules.proofs.Kept.Frame.{Frame, All}
 
-abbrev pub setFlags : Blocks → ℕ → ℕ → Blocks
-setFlags t i v = withFlags t (set (t .flags) i v)
+module _ (t : Blocks) (i : ℕ) (s : Shape t) (o : holds t i ≡ true) where
+  inside : i < length (t .flags)
+  inside = let l = holds-lt t i o in let e = s .flagged in omega arith
 
-module _ (t : Blocks) (i v : ℕ) where
-  pub flags-but : But t (setFlags t i v) i
-  unfolding blockAt
-  flags-but = record {
+  pub lit-but : But t (activate t i) i
+  unfolding activate setStatus setOnActiveChain setOccupied blockAt
+  lit-but = rw o (record {
     shapes = λ s. record { some = s .some; small = s .small; parents = s .parents; counts = s .counts; flagged = simp length-set (s .flagged); hashed = s .hashed };
     sizes = refl;
-    rest = λ j ne. rw (getD-set-other (t .flags) i j v 0 ne);
-  }
+    rest = λ j ne. rw (set-set (t .flags) i _ _, getD-set-other (t .flags) i j _ 0 ne);
+  })
 
--- flag and status Active
-abbrev pub lit : Blocks → ℕ → ℕ
-lit t i = withStatus (withBit0 (flagsAt (t .flags) i) true) 2
+  lit-odd : flagsAt (activate t i .flags) i % 2 ≡ 1
+  unfolding activate setStatus setOnActiveChain setOccupied withStatus
+  lit-odd = rw (o, set-set (t .flags) i _ _, getD-set-same (t .flags) i _ 0 inside) (rw (getD-set-same (t .flags) i _ 0 inside) (omega arith))
 
-module _ (t : Blocks) (i : ℕ) (s : Shape t) (o : holds t i ≡ true) where
-  inside : flagsAt (set (t .flags) i (withBit0 (flagsAt (t .flags) i) true)) i ≡ withBit0 (flagsAt (t .flags) i) true
-  inside = getD-set-same (t .flags) i (withBit0 (flagsAt (t .flags) i) true) 0 (let l = holds-lt t i o in let e = s .flagged in omega arith)
+  pub lit-here : onChain (activate t i) i ≡ true
+  unfolding active
+  lit-here = eq-eqb (flagsAt (activate t i .flags) i % 2) 1 lit-odd
 
-  pub activate-is : activate t i ≡ setFlags t i (lit t i)
-  unfolding activate setStatus setOnActiveChain setOccupied
-  activate-is = rw (o, inside, set-set (t .flags) i (withBit0 (flagsAt (t .flags) i) true) (lit t i))
+  pub lit-other : (j : ℕ) → j ≢ i → onChain (activate t i) j ≡ onChain t j
+  lit-other j ne = but-chain t (activate t i) i lit-but j ne
 
-  pub lit-here : onChain (setFlags t i (lit t i)) i ≡ true
-  unfolding active withStatus
-  lit-here =
-      let f = flagsAt (t .flags) i in
-      let a = f / 2 * 2 + 1 in
-      rw (getD-set-same (t .flags) i (lit t i) 0 (let l = holds-lt t i o in let e = s .flagged in omega arith))
-      (eq-eqb ((a / 8 * 8 + 2 * 2 + a % 2) % 2) 1 (omega arith))
-
-  pub lit-other : (j : ℕ) → j ≢ i → onChain (setFlags t i (lit t i)) j ≡ onChain t j
-  lit-other j ne = but-chain t (setFlags t i (lit t i)) i (flags-but t i (lit t i)) j ne
-
-pub flags-kids : (t : Blocks) (i v k : ℕ) → childrenOf (setFlags t i v) k ≡ childrenOf t k
-unfolding childrenOf
-flags-kids t i v k = refl
+lit-kids : (t : Blocks) (i k : ℕ) → childrenOf (activate t i) k ≡ childrenOf t k
+unfolding childrenOf activate
+lit-kids t i k = refl
 
 -- with no active head nothing is active
 none-active : (f : ℕ) (t : Blocks) (h : Heads) (i : ℕ) → Frame t h NONE All → holds t i ≡ true → onChain t i ≡ true → height t i < f → ⊥
@@ -66,11 +54,12 @@ none-active (suc f) t h i g o a l =
     let fall : seqOf t i < seqOf t c = omega (arith, rw pc at (parent-there t c (g .counts .linked) oc n .1)) in
     none-active f t h c g oc ac (omega (arith, height-falls t i c oc fall))
 
-pub promote-frame : (t : Blocks) (h : Heads) (top i : ℕ) → Frame t h top All → holds t i ≡ true → (top ≡ NONE) ⊎ (parentOf t i ≡ top) → Frame (setFlags t i (lit t i)) h i All
+pub promote-frame : (t : Blocks) (h : Heads) (top i : ℕ) → Frame t h top All → holds t i ≡ true → (top ≡ NONE) ⊎ (parentOf t i ≡ top) → Frame (activate t i) h i All
+unfolding activate
 promote-frame t h top i g o acc =
     let s = g .counts .shape in
-    let u : Blocks = setFlags t i (lit t i) in
-    let b = flags-but t i (lit t i) in
+    let u : Blocks = activate t i in
+    let b = lit-but t i s o in
     let was : (j : ℕ) → onChain u j ≡ false → onChain t j ≡ false = λ j a.
     let ne : j ≢ i = λ q. true-not-false {b = onChain u j} (rw q (lit-here t i s o)) a in
     sym (lit-other t i s o j ne) ∙ a in
@@ -81,14 +70,14 @@ promote-frame t h top i g o acc =
       counts = record {
         shape = b .shapes s;
         linked = g .counts .linked;
-        counted = λ j oj a. rw flags-kids (g .counts .counted j oj (was j a));
+        counted = λ j oj a. rw lit-kids (g .counts .counted j oj (was j a));
       };
       voids = but-voids t u i b o (g .voids);
       roomy = g .roomy;
       blanks = g .blanks;
-      tips = λ r ur. let p = g .tips r ur in (p .0, rw flags-kids (p .1));
+      tips = λ r ur. let p = g .tips r ur in (p .0, rw lit-kids (p .1));
       apart = g .apart;
-      covered = λ j _ oj a z. g .covered j tt oj (was j a) (rw flags-kids at z);
+      covered = λ j _ oj a z. g .covered j tt oj (was j a) (rw lit-kids at z);
       chained = λ j oj a ne.
           let aj : onChain t j ≡ true = sym (lit-other t i s o j ne) ∙ a in
           same? j top

@@ -7,16 +7,15 @@ use native.Mathlib.Omega.{arith}
 use lib.Dec.{eqb}
 use borrow.Author.Tests.{eqb-true}
 use Rattle.rules.specs.Records.{NONE, Blocks}
-use Rattle.rules.specs.Caches.{recomputeHeads}
-use Rattle.rules.specs.Promotion.{promoted}
+use Rattle.rules.specs.Promotion.{activate, promoted}
 use Rattle.rules.specs.Answers.{done}
-use Rattle.rules.specs.Calls.{State, promoteCall, answering, isNext, promote}
+use Rattle.rules.specs.Calls.{State, promoteCall, answering, isNext, promotedTo, promote}
 use Rattle.rules.specs.Promises.{parent, Active, OnLine, start, down, Sound}
 use Rattle.rules.proofs.Splits.{split, same?, true-not-false}
 use Rattle.rules.proofs.Kept.Table.{parentOf, holds, Shape, holds-ne, ne-holds, none-empty}
 use Rattle.rules.proofs.Kept.Frame.{Frame, All}
 use Rattle.rules.proofs.Kept.Recomputed.{recomputed}
-use Rattle.rules.proofs.Kept.Promote.{setFlags, lit, activate-is, lit-here, lit-other, promote-frame}
+use Rattle.rules.proofs.Kept.Promote.{lit-here, lit-other, promote-frame}
 use Rattle.rules.proofs.Kept.Walked.{blocksOf, headsOf, active-on, on-active}
 use Rattle.rules.proofs.Kept.Border.{sound-good, good-sound}
 use Rattle.rules.proofs.Kept.Went.{Went, turned-away}
@@ -35,27 +34,24 @@ module _ (s : State) (i : ℕ) (z : Sound s) (o : holds (blocksOf s) i ≡ true)
   sh : Shape t
   sh = f .counts .shape
 
-  abbrev b : Blocks
-  b = setFlags t i (lit t i)
-
   abbrev u : State
-  u = record { tables = record { blocks = b; heads = recomputeHeads b (headsOf s) }; activeHead = i }
-
-  promoted-is : promoted (s .tables) i ≡ u .tables
-  unfolding promoted
-  promoted-is = rw (activate-is t i sh o)
+  u = promotedTo s i
 
   here : Active u i
+  unfolding promoted
   here = on-active u i (lit-here t i sh o)
 
   up : (j : ℕ) → Active s j → Active u j
+  unfolding promoted
   up j a = same? j i (λ q. rw q here) (λ ne. on-active u j (lit-other t i sh o j ne ∙ active-on s j a))
 
   was : (j : ℕ) → j ≢ i → Active u j → Active s j
+  unfolding promoted
   was j ne a = on-active s j (sym (lit-other t i sh o j ne) ∙ active-on u j a)
 
   module _ (acc : (s .activeHead ≡ NONE) ⊎ (parent s i ≡ s .activeHead)) where
     lift : (j : ℕ) → OnLine s j → OnLine u j
+    unfolding promoted activate
     lift j (start a) = elim acc [
       | inl e ↦ true-not-false {b = holds t NONE} (rw e at (ne-holds t (s .activeHead) (z .tree .line (s .activeHead) a .0))) (none-empty t sh)
       | inr e ↦ rw (← e) (down i (start here) (rw e (up (s .activeHead) a)))
@@ -63,8 +59,9 @@ module _ (s : State) (i : ℕ) (z : Sound s) (o : holds (blocksOf s) i ≡ true)
     lift j (down k l a) = down k (lift k l) (up (parent s k) a)
 
     pub promoted-went : Went (promoteCall i) s (answering u done)
+    unfolding promoted activate
     promoted-went = record {
-      sound = good-sound u (recomputed b i All (headsOf s) (promote-frame t (headsOf s) (s .activeHead) i f o acc))
+      sound = good-sound u (recomputed _ i All (headsOf s) (promote-frame t (headsOf s) (s .activeHead) i f o acc))
           (λ j a. same? j i
           (λ q. rw q (holds-ne t i o, start here))
           (λ ne. let w = z .tree .line j (was j ne a) in (w .0, lift j (w .1))))
@@ -90,6 +87,6 @@ module _ (s : State) (i : ℕ) (z : Sound s) where
   unfolding promote
   went-promote = rw (z .tree .shape) (split (holds (blocksOf s) i)
       (λ o. split (isNext s i)
-      (λ e. rw (o, e, promoted-is s i z o) (promoted-went s i z o (next-is e)))
+      (λ e. rw (o, e) (promoted-went s i z o (next-is e)))
       (λ e. rw (o, e) (turned-away (promoteCall i) s 8 z)))
       (λ o. rw o (turned-away (promoteCall i) s 3 z)))

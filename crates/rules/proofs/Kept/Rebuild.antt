@@ -10,7 +10,7 @@ use Rattle.rules.specs.Records.{NONE, Blocks, Heads, Tables, slotsOf}
 use Rattle.rules.specs.BlockTable.{childless, children}
 use Rattle.rules.specs.Admission.{insertHead}
 use Rattle.rules.specs.Removal.{recounted}
-use Rattle.rules.specs.Rebuild.{emptyHeads, rebuildAt, rebuildHeads, rebuilt, restarted}
+use Rattle.rules.specs.Rebuild.{rebuildAt, rebuiltBelow, rebuildHeads, rebuilt, headless, restarted}
 use Rattle.rules.specs.Promises.{childrenOf}
 use Rattle.rules.proofs.Splits.{split, same?, and-true, true-not-false}
 use Rattle.rules.proofs.Kept.Table.{Shape, Linked, size, holds, onChain, holds-lt, holds-real, kids-slots}
@@ -124,7 +124,7 @@ frame-trunk t h top f = record { shape = f .counts .shape; linked = f .counts .l
 
 module _ (t : Blocks) (h : Heads) (top arrival : ℕ) (r : Room h) (b : Trunk t top) where
   abbrev start : Tables
-  start = record { blocks = recounted t; heads = emptyHeads (room h) }
+  start = headless (record { blocks = t; heads = h })
 
   begins : Upto t top 0 start
   begins = let m = room h in
@@ -146,6 +146,10 @@ module _ (t : Blocks) (h : Heads) (top arrival : ℕ) (r : Room h) (b : Trunk t 
         steady = recounted-steady t;
         sizes = refl;
       }
+
+  -- its heads half made
+  pub half-good : (k : ℕ) → Good (rebuiltBelow k start arrival top .blocks) (rebuiltBelow k start arrival top .heads) top (λ i. i < k)
+  half-good k = all-upto arrival top t start begins k .good
 
   pub restart-done : Good (restarted (record { blocks = t; heads = h }) arrival top .blocks) (restarted (record { blocks = t; heads = h }) arrival top .heads) top All
       × Steady NONE t (restarted (record { blocks = t; heads = h }) arrival top .blocks)

@@ -54,4 +54,4 @@ remove-done t h top r g root free =
     let lf = left-is t h top r f root free in
     let v : Heads = h2 t u h top r deleted f lf in
     let hl = heads-left t u h top r deleted f lf in
-    (recomputed (recounted u) top All v (final t u h top r deleted f lf v hl), steady-left t u h top r deleted f lf v hl)
+    (recomputed _ top All v (final t u h top r deleted f lf v hl), steady-left t u h top r deleted f lf v hl)

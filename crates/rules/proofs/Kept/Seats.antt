@@ -9,7 +9,7 @@ use lib.ListN.{length, length-set, List·getD-eq-default}
 use lib.Seq.{getD-set-same, getD-set-other}
 use borrow.Author.Tests.{eqb-true, eqb-false, ne-eqb, not-true, not-false}
 use Rattle.rules.specs.Hashes.{hashLength}
-use Rattle.rules.specs.Records.{NONE, Heads, tipAt, used, slotsOf, bit0, emptyHead, putHead}
+use Rattle.rules.specs.Records.{NONE, Heads, tipAt, used, slotsOf, bit0, emptyHead, putHead, clear}
 use Rattle.rules.specs.Anchor.{Anchor, connection, tail}
 use Rattle.rules.specs.Promises.{headAt}
 use Rattle.rules.specs.declared.Head.{Head}
@@ -160,12 +160,9 @@ module _ (h : Heads) (k : ℕ) (head : Head) (len : length (head .missing) ≡ h
     getD-set-same (h .connected) k (head .connected) 0 (omega (arith, r .flagged)),
   )
 
-abbrev pub clear : Heads → ℕ → Heads
-clear h k = putHead h k emptyHead
-
 module _ (h : Heads) (k : ℕ) where
   pub clear-seat : Seat h (clear h k) k NONE
-  clear-seat = put-seat h k emptyHead zero-length
+  clear-seat = put-seat h k _ zero-length
 
   pub clear-here : inUse (clear h k) k ≡ false
   unfolding used putHead
@@ -179,5 +176,5 @@ module _ (h : Heads) (k : ℕ) where
 
   pub clear-blanks : Room h → inUse h k ≡ true → Blanks h → Blanks (clear h k)
   clear-blanks m o v r e = same? r k
-      (λ q. rw q (put-head h k emptyHead zero-length m (use-lt h k o)))
+      (λ q. rw q (put-head h k _ zero-length m (use-lt h k o)))
       (λ ne. clear-seat .rest r ne ∙ v r (sym (seat-use h (clear h k) k NONE clear-seat r ne) ∙ e))

@@ -9,7 +9,7 @@ use lib.ListN.{length, length-set}
 use lib.Seq.{getD-set-same, getD-set-other}
 use borrow.Author.Tests.{eq-eqb, ne-eqb}
 use Rattle.rules.specs.Hashes.{hashLength}
-use Rattle.rules.specs.Records.{NONE, Blocks, occupied, active, emptyBlock, blockAt, putBlock}
+use Rattle.rules.specs.Records.{NONE, Blocks, occupied, active, emptyBlock, blockAt, putBlock, erase}
 use Rattle.rules.specs.Promises.{isChild, childrenOf}
 use Rattle.rules.specs.declared.Block.{Block}
 use Rattle.rules.proofs.Splits.{same?, true-not-false, and-false-r}
@@ -118,12 +118,9 @@ module _ (t : Blocks) (i : ℕ) (b : Block) (len : length (b .hash) ≡ hashLeng
     getD-set-same (t .flags) i (b .flags) 0 (omega (arith, s .flagged)),
   )
 
-abbrev pub erase : Blocks → ℕ → Blocks
-erase t i = putBlock t i emptyBlock
-
 module _ (t : Blocks) (i : ℕ) where
   pub erase-but : But t (erase t i) i
-  erase-but = put-but t i emptyBlock zero-length
+  erase-but = put-but t i _ zero-length
 
   pub erase-empty : holds (erase t i) i ≡ false
   unfolding putBlock occupied
@@ -183,5 +180,5 @@ but-voids t u i b o v j e = same? j i
 
 pub erase-voids : (t : Blocks) (i : ℕ) → Shape t → holds t i ≡ true → Voids t → Voids (erase t i)
 erase-voids t i s o v j e = same? j i
-    (λ q. rw q (put-here t i emptyBlock zero-length s (holds-lt t i o)))
+    (λ q. rw q (put-here t i _ zero-length s (holds-lt t i o)))
     (λ ne. erase-but t i .rest j ne ∙ v j (sym (but-holds t (erase t i) i (erase-but t i) j ne) ∙ e))

@@ -4,12 +4,12 @@ use mathlib.Core.Logic.{_≢_}
 use mathlib.Core.Bool.{true, false}
 use Prim.Native.Nat.{ℕ}
 use native.Mathlib.Omega.{arith}
-use Rattle.rules.specs.Records.{NONE, Blocks}
+use Rattle.rules.specs.Records.{NONE, Blocks, erase}
 use Rattle.rules.specs.Anchor.{Anchor}
 use Rattle.rules.specs.Promises.{childrenOf}
 use Rattle.rules.proofs.Splits.{same?, true-not-false}
 use Rattle.rules.proofs.Kept.Table.{size, seqOf, parentOf, hashOf, holds, onChain, setCount, Shape, holds-real, childless}
-use Rattle.rules.proofs.Kept.Slots.{But, but-seq, but-parent, but-hash, but-chain, but-holds, erase, erase-but, erase-empty, erase-kids-other, erase-kids-parent, count-kids}
+use Rattle.rules.proofs.Kept.Slots.{But, but-seq, but-parent, but-hash, but-chain, but-holds, erase-but, erase-empty, erase-kids-other, erase-kids-parent, count-kids}
 use Rattle.rules.proofs.Kept.Ends.{Ends, at-active, at-root, goes-on}
 use Rattle.rules.proofs.Kept.Freed.{Freed, off, keeps, frees}
 

@@ -9,13 +9,13 @@ use lib.ListN.{length, length-set}
 use lib.Seq.{getD-set-same, getD-set-other}
 use borrow.Author.Tests.{eq-eqb, ne-eqb}
 use Rattle.rules.specs.Common.{inOrder}
-use Rattle.rules.specs.Records.{Blocks, occupied, countAt, slotsOf, blockAt}
+use Rattle.rules.specs.Records.{Blocks, occupied, countAt, slotsOf, blockAt, erase}
 use Rattle.rules.specs.BlockTable.{childOf, children, delete}
 use Rattle.rules.specs.Removal.{recount, recountAll, recounted, listed, freeAll}
 use Rattle.rules.specs.Promises.{childrenOf}
 use Rattle.rules.proofs.Splits.{split, same?, true-not-false}
 use Rattle.rules.proofs.Kept.Table.{size, holds, Shape, Linked, Kept, holds-lt, kids-slots}
-use Rattle.rules.proofs.Kept.Slots.{same-block, But, erase, erase-but, erase-empty, Voids, erase-voids}
+use Rattle.rules.proofs.Kept.Slots.{same-block, But, erase-but, erase-empty, Voids, erase-voids}
 
 -- ---- the listed blocks are freed
 

@@ -10,10 +10,9 @@ use lib.ListN.{length}
 use Rattle.rules.specs.Common.{isSome}
 use Rattle.rules.specs.Hashes.{hashLength, zeroHash, hashAt, sameHash}
 use Rattle.rules.specs.Records.{NONE, Blocks}
-use Rattle.rules.specs.BlockTable.{find, nextFree, findParent, insertAt}
-use Rattle.rules.specs.Admission.{admitted, refreshTails}
+use Rattle.rules.specs.BlockTable.{find, nextFree}
 use Rattle.rules.specs.Answers.{refused, slot}
-use Rattle.rules.specs.Calls.{State, Stepped, keeping, answering, refuse, shaped, newBlock, slotOrNone, admitAt, admit}
+use Rattle.rules.specs.Calls.{State, Stepped, keeping, answering, refuse, shaped, admitAt, admit}
 use Rattle.rules.proofs.Splits.{split, option?, and-true}
 use Rattle.admit_reply.proofs.OwnHash.{own-hash}
 
@@ -63,9 +62,6 @@ module _ (s : State) (sequence : ℕ) (hash previous : List ℕ) (arrival : ℕ)
       (l, (m, rw (e, r))))
 
   -- as the code does it, with the hashes read from their buffers
-  pub admit-places : (i : ℕ) (own : List ℕ) → step .answer ≡ slot i → own ≡ hashAt hash 0
-      → let parent = findParent (b .hashes) (b .sequences) (hashAt previous 0) sequence in
-      refreshTails (admitted (record { blocks = insertAt b i (newBlock sequence own (slotOrNone parent)); heads = s .tables .heads }) i parent previous arrival (s .activeHead))
-      ≡ step .after .tables
-  unfolding admitAt
-  admit-places i own h o = let d = admit-slot i h in rw (d .1 .1, o, own-hash hash (d .0), own-hash previous (d .1 .0))
+  pub admit-places : (i : ℕ) (own before : List ℕ) → step .answer ≡ slot i → own ≡ hashAt hash 0 → before ≡ hashAt previous 0
+      → admitAt s i sequence own before arrival ≡ step .after .tables
+  admit-places i own before h o p = let d = admit-slot i h in rw (d .1 .1, o, p, own-hash hash (d .0), own-hash previous (d .1 .0))

@@ -69,7 +69,7 @@ pub fn admit(
                 slot,
                 sequence,
                 hash_at(hash, 0),
-                previous,
+                hash_at(previous, 0),
                 arrival,
             );
             Admitted::Slot(slot)

@@ -65,7 +65,7 @@ pub fn reply(
     if previous.len() != 32 {
         return Admitted::Refused(Refusal::HashLength);
     }
-    if sequence.0 == Sequence::NONE_REF {
+    if sequence.0 == Sequence::NONE_REF.0 {
         return Admitted::Refused(Refusal::ReservedSequence);
     }
     let own = hash_at(hash, 0);

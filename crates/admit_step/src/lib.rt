@@ -1,15 +1,11 @@
 // An admitted block: it is inserted, then the heads are told.
 ghost use mathlib.Core.Path.{_≡_};
-ghost use Rattle.rules.specs.Hashes.{hashAt};
-ghost use Rattle.rules.specs.Records.{blocksOf, headsOf, tablesOf};
-ghost use Rattle.rules.specs.BlockTable.{findParent, insertAt};
-ghost use Rattle.rules.specs.Admission.{admitted, refreshTails};
+ghost use Rattle.rules.specs.Records.{tablesOf};
 ghost use Rattle.rules.specs.Answers.{slotFound};
-ghost use Rattle.rules.specs.Calls.{newBlock, slotOrNone};
+ghost use Rattle.rules.specs.Calls.{stateOf, slotOrNone, admitAt};
 use admission::on_block_admitted;
 use block_changes::insert_at;
 use blocks::find_parent;
-use cells::hash_at;
 use rules::Block;
 use rules::BlockSlot;
 use rules::Found;
@@ -21,7 +17,7 @@ fn slot_or_none(found: Found) -> BlockSlot
 {
     match found {
         Found::At(slot) => slot,
-        Found::Nothing => BlockSlot(BlockSlot::NONE_REF),
+        Found::Nothing => BlockSlot::NONE_REF,
     }
 }
 
@@ -41,14 +37,15 @@ pub fn admit_at(
     slot: BlockSlot,
     sequence: Sequence,
     own: [u8; 32],
-    previous: &[u8],
+    previous: [u8; 32],
     arrival: u64,
 )
     ensures { λ _. ⌜ tablesOf (now (hashes .exit)) (now (parents .exit)) (now (sequences .exit)) (now (counts .exit)) (now (flags .exit))
         (now (tips .exit)) (now (tails .exit)) (now (missing .exit)) (now (requested .exit)) (now (arrivals .exit)) (now (connected .exit))
-        ≡ refreshTails (admitted (record { blocks = insertAt (blocksOf (now (hashes .entry)) (now (parents .entry)) (now (sequences .entry)) (now (counts .entry)) (now (flags .entry))) (slot .0) (newBlock (sequence .0) own (slotOrNone (findParent (now (hashes .entry)) (now (sequences .entry)) (hashAt (now (previous .entry)) 0) (sequence .0)))); heads = headsOf (now (tips .entry)) (now (tails .entry)) (now (missing .entry)) (now (requested .entry)) (now (arrivals .entry)) (now (connected .entry)) }) (slot .0) (findParent (now (hashes .entry)) (now (sequences .entry)) (hashAt (now (previous .entry)) 0) (sequence .0)) (now (previous .entry)) arrival (active .0)) ⌝ }
+        ≡ admitAt (stateOf (tablesOf (now (hashes .entry)) (now (parents .entry)) (now (sequences .entry)) (now (counts .entry)) (now (flags .entry))
+        (now (tips .entry)) (now (tails .entry)) (now (missing .entry)) (now (requested .entry)) (now (arrivals .entry)) (now (connected .entry))) (active .0)) (slot .0) (sequence .0) own previous arrival ⌝ }
 {
-    let parent = find_parent(hashes, sequences, hash_at(previous, 0), sequence);
+    let parent = find_parent(hashes, sequences, previous, sequence);
     let below = slot_or_none(parent);
     let block = Block {
         hash: own,
@@ -72,7 +69,7 @@ pub fn admit_at(
         connected,
         slot,
         parent,
-        previous,
+        &previous,
         arrival,
         active,
     );

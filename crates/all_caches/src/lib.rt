@@ -38,7 +38,7 @@ fn recompute_alone(
         requested,
         connected,
         head,
-        BlockSlot(BlockSlot::NONE_REF),
+        BlockSlot::NONE_REF,
         &zeros,
     );
 }

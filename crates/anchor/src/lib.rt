@@ -8,6 +8,7 @@ use cells::slots;
 use cells::word_at;
 use rules::BlockSlot;
 use rules::Located;
+use rules::Sequence;
 
 fn locate_by_total_reads(
     parents: &[u32],
@@ -29,7 +30,7 @@ fn locate_by_total_reads(
             return Located::Connection(BlockSlot(current));
         }
         let parent = word_at(parents, current);
-        if parent == BlockSlot::NONE_REF {
+        if parent == BlockSlot::NONE_REF.0 {
             return Located::Tail(BlockSlot(current));
         }
         last = current;
@@ -56,7 +57,7 @@ pub fn locate_anchor(parents: &[u32], sequences: &[u32], flags: &[u8], start: Bl
                         return Located::Tail(BlockSlot(last));
                     }
                     let k = current as usize;
-                    if sequences[k] == BlockSlot::NONE_REF {
+                    if sequences[k] == Sequence::NONE_REF.0 {
                         return Located::Tail(BlockSlot(last));
                     }
                     if flags[k] % 2 == 1 {

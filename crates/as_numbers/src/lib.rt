@@ -8,9 +8,13 @@ use rules::BlockStatus;
 use rules::Counted;
 use rules::Found;
 use rules::FoundHead;
+use rules::HeadSlot;
 use rules::Located;
 use rules::Refusal;
 use rules::StatusFound;
+
+// What stands for a count or a status that is not there.
+const NOTHING: u32 = 4294967295;
 
 pub fn refusal_number(why: Refusal) -> u32
     ensures { λ r. ⌜ r ≡ refusalNumber why ⌝ }
@@ -39,7 +43,7 @@ pub fn found(f: Found) -> u32
 {
     match f {
         Found::At(slot) => slot.0,
-        Found::Nothing => BlockSlot::NONE_REF,
+        Found::Nothing => BlockSlot::NONE_REF.0,
     }
 }
 
@@ -48,7 +52,7 @@ pub fn found_head(f: FoundHead) -> u32
 {
     match f {
         FoundHead::At(head) => head.0,
-        FoundHead::Nothing => BlockSlot::NONE_REF,
+        FoundHead::Nothing => HeadSlot::NONE_REF.0,
     }
 }
 
@@ -57,7 +61,7 @@ pub fn counted(c: Counted) -> u32
 {
     match c {
         Counted::Count(count) => count as u32,
-        Counted::Nothing => BlockSlot::NONE_REF,
+        Counted::Nothing => NOTHING,
     }
 }
 
@@ -76,7 +80,7 @@ pub fn status_found(f: StatusFound) -> u32
 {
     match f {
         StatusFound::Status(s) => status_number(s),
-        StatusFound::Nothing => BlockSlot::NONE_REF,
+        StatusFound::Nothing => NOTHING,
     }
 }
 

@@ -2,7 +2,7 @@
 ghost use mathlib.Core.Path.{_≡_};
 ghost use Rattle.rules.specs.Records.{blocksOf, statusNumber, statusOf};
 ghost use Rattle.rules.specs.BlockTable.{get as getRule, headRefCount, statusAt};
-ghost use Rattle.rules.specs.Answers.{blockGot, countGot, statusGot};
+ghost use Rattle.rules.specs.Answers.{gotBlock, countGot, statusGot};
 use blocks::is_occupied;
 use cells::byte_at;
 use cells::hash_at;
@@ -23,7 +23,7 @@ pub fn get(
     flags: &[u8],
     slot: BlockSlot,
 ) -> Got
-    ensures { λ r. ⌜ blockGot r ≡ getRule (blocksOf (now (hashes .entry)) (now (parents .entry)) (now (sequences .entry)) (now (counts .entry)) (now (flags .entry))) (slot .0) ⌝ }
+    ensures { λ r. ⌜ r ≡ gotBlock (getRule (blocksOf (now (hashes .entry)) (now (parents .entry)) (now (sequences .entry)) (now (counts .entry)) (now (flags .entry))) (slot .0)) ⌝ }
 {
     if !is_occupied(sequences, slot) {
         return Got {

@@ -16,7 +16,7 @@ use rules::Sequence;
 pub fn is_occupied(sequences: &[u32], slot: BlockSlot) -> bool
     ensures { λ r. ⌜ r ≡ occupied (now (sequences .entry)) (slot .0) ⌝ }
 {
-    word_at(sequences, slot.0) != BlockSlot::NONE_REF
+    word_at(sequences, slot.0) != Sequence::NONE_REF.0
 }
 
 pub fn is_on_active_chain(flags: &[u8], slot: BlockSlot) -> bool
@@ -29,7 +29,7 @@ pub fn find(hashes: &[u8], sequences: &[u32], sequence: Sequence, hash: [u8; 32]
     ensures { λ r. ⌜ slotFound r ≡ findRule (now (hashes .entry)) (now (sequences .entry)) (sequence .0) hash ⌝ }
 {
     let wanted = sequence.0;
-    if wanted == BlockSlot::NONE_REF {
+    if wanted == Sequence::NONE_REF.0 {
         return Found::Nothing;
     }
     let n = slots(sequences);
@@ -46,7 +46,7 @@ pub fn find(hashes: &[u8], sequences: &[u32], sequence: Sequence, hash: [u8; 32]
 pub fn next_free_index(sequences: &[u32]) -> Found
     ensures { λ r. ⌜ slotFound r ≡ nextFree (now (sequences .entry)) ⌝ }
 {
-    let i = next_at(sequences, 0, BlockSlot::NONE_REF);
+    let i = next_at(sequences, 0, Sequence::NONE_REF.0);
     if i < slots(sequences) {
         return Found::At(BlockSlot(i));
     }
@@ -87,7 +87,7 @@ pub fn walks_to_active_chain(
             return true;
         }
         let parent = word_at(parents, current);
-        if parent == BlockSlot::NONE_REF {
+        if parent == BlockSlot::NONE_REF.0 {
             return false;
         }
         current = parent;

@@ -8,8 +8,8 @@ use cells::put_hash;
 use cells::put_time;
 use cells::put_word;
 use rules::Admitted;
-use rules::BlockSlot;
 use rules::DeadlineAnswer;
+use rules::HeadSlot;
 use rules::Outcome;
 use rules::Refusal;
 use rules::Removed;
@@ -61,7 +61,7 @@ pub fn timed_number(timed: Timed, hash: [u8; 32], claimed: &mut [u32], wanted: &
             put_hash(wanted, 0, hash);
             head.0 as u64
         }
-        Timed::NoneDue => BlockSlot::NONE_REF as u64,
+        Timed::NoneDue => HeadSlot::NONE_REF.0 as u64,
         Timed::Refused(why) => refusal(why),
     }
 }

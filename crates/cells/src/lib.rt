@@ -6,9 +6,11 @@ ghost use mathlib.Core.Bool.{true};
 ghost use Prim.Native.Nat.{ℕ, _+_, _<_, _≤_};
 ghost use lib.ListN.{getD, set};
 ghost use Rattle.cells.specs.Places.{nextAt};
-ghost use Rattle.rules.specs.Hashes.{hashAt, putHash, sameHash, hashLess};
+ghost use Rattle.rules.specs.Hashes.{hashAt, firstByte, putHash, sameHash, hashLess};
 ghost use Rattle.rules.specs.Records.{NONE, slotsOf};
-use rules::BlockSlot;
+
+// In a word that names no slot and in the sequence of an empty one; a cell does not know which it holds.
+const NONE_REF: u32 = 4294967295;
 
 // How many slots a field of this length has: no more than a reference can name.
 pub fn slots(words: &[u32]) -> u32
@@ -18,7 +20,7 @@ pub fn slots(words: &[u32]) -> u32
     if len < 4294967295 {
         return len as u32;
     }
-    BlockSlot::NONE_REF
+    NONE_REF
 }
 
 pub fn word_at(words: &[u32], at: u32) -> u32
@@ -28,7 +30,7 @@ pub fn word_at(words: &[u32], at: u32) -> u32
     if slot < words.len() {
         words[slot]
     } else {
-        BlockSlot::NONE_REF
+        NONE_REF
     }
 }
 
@@ -148,7 +150,7 @@ fn padded_hash(bytes: &[u8], at: u32) -> [u8; 32]
 }
 
 pub fn first_byte(bytes: &[u8], at: u32) -> u8
-    ensures { λ r. ⌜ r ≡ getD (hashAt (now (bytes .entry)) at) 0 0 ⌝ }
+    ensures { λ r. ⌜ r ≡ firstByte (hashAt (now (bytes .entry)) at) ⌝ }
 {
     byte_from(bytes, at as usize * 32)
 }

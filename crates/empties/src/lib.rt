@@ -1,8 +1,10 @@
 // Tables emptied: each cell holds what an empty record has there.
 ghost use mathlib.Core.Path.{_≡_};
 ghost use lib.ListN.{length, replicate};
-ghost use Rattle.rules.specs.Records.{NONE, blocksOf, headsOf};
+ghost use Rattle.rules.specs.Records.{blocksOf, headsOf};
+ghost use Rattle.rules.specs.Rebuild.{blocksEmptied, headsEmptied};
 use rules::BlockSlot;
+use rules::Sequence;
 
 pub fn fill_bytes(bytes: &mut [u8], value: u8)
     ensures { λ _. ⌜ now (bytes .exit) ≡ replicate (length (now (bytes .entry))) value ⌝ }
@@ -43,10 +45,10 @@ pub fn empty_heads(
     connected: &mut [u8],
 )
     ensures { λ _. ⌜ headsOf (now (tips .exit)) (now (tails .exit)) (now (missing .exit)) (now (requested .exit)) (now (arrivals .exit)) (now (connected .exit))
-        ≡ headsOf (replicate (length (now (tips .entry))) NONE) (replicate (length (now (tails .entry))) NONE) (replicate (length (now (missing .entry))) 0) (replicate (length (now (requested .entry))) 0) (replicate (length (now (arrivals .entry))) 0) (replicate (length (now (connected .entry))) 0) ⌝ }
+        ≡ headsEmptied (headsOf (now (tips .entry)) (now (tails .entry)) (now (missing .entry)) (now (requested .entry)) (now (arrivals .entry)) (now (connected .entry))) ⌝ }
 {
-    fill_words(tips, BlockSlot::NONE_REF);
-    fill_words(tails, BlockSlot::NONE_REF);
+    fill_words(tips, BlockSlot::NONE_REF.0);
+    fill_words(tails, BlockSlot::NONE_REF.0);
     fill_bytes(missing, 0);
     fill_times(requested, 0);
     fill_times(arrivals, 0);
@@ -61,11 +63,11 @@ pub fn empty_blocks(
     flags: &mut [u8],
 )
     ensures { λ _. ⌜ blocksOf (now (hashes .exit)) (now (parents .exit)) (now (sequences .exit)) (now (counts .exit)) (now (flags .exit))
-        ≡ blocksOf (replicate (length (now (hashes .entry))) 0) (replicate (length (now (parents .entry))) NONE) (replicate (length (now (sequences .entry))) NONE) (replicate (length (now (counts .entry))) 0) (replicate (length (now (flags .entry))) 0) ⌝ }
+        ≡ blocksEmptied (blocksOf (now (hashes .entry)) (now (parents .entry)) (now (sequences .entry)) (now (counts .entry)) (now (flags .entry))) ⌝ }
 {
     fill_bytes(hashes, 0);
-    fill_words(parents, BlockSlot::NONE_REF);
-    fill_words(sequences, BlockSlot::NONE_REF);
+    fill_words(parents, BlockSlot::NONE_REF.0);
+    fill_words(sequences, Sequence::NONE_REF.0);
     fill_bytes(counts, 0);
     fill_bytes(flags, 0);
 }

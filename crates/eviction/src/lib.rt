@@ -26,13 +26,13 @@ use rules::Sequence;
 fn may_go(tip: BlockSlot, sequence: Sequence, active: BlockSlot) -> bool
     ensures { λ r. ⌜ r ≡ (not (eqb (tip .0) NONE) && not (eqb (tip .0) (active .0)) && not (eqb (sequence .0) NONE)) ⌝ }
 {
-    if tip.0 == BlockSlot::NONE_REF {
+    if tip.0 == BlockSlot::NONE_REF.0 {
         return false;
     }
     if tip.0 == active.0 {
         return false;
     }
-    sequence.0 != Sequence::NONE_REF
+    sequence.0 != Sequence::NONE_REF.0
 }
 
 // Whether a tip of this sequence goes before the best head's, whose sequence is the lowest so far.

@@ -3,13 +3,12 @@
 ghost use mathlib.Core.Path.{_≡_};
 ghost use Prim.Native.Nat.{ℕ};
 ghost use lib.Dec.{eqb};
-ghost use Rattle.rules.specs.Common.{countBelow, isSome, lowest};
-ghost use Rattle.rules.specs.Hashes.{hashAt, hashLess};
-ghost use Rattle.rules.specs.Records.{headsOf, slotsOf, tipAt, used, isConnected, stored, putHead};
+ghost use Rattle.rules.specs.Common.{lowest};
+ghost use Rattle.rules.specs.Records.{headsOf, slotsOf, tipAt, used, isConnected, stored, headCount, hasStoredHead, putHead};
 ghost use Rattle.rules.specs.Caches.{slotOfHead};
 ghost use Rattle.rules.specs.Admission.{firstEmpty};
 ghost use Rattle.rules.specs.Answers.{headFound};
-ghost use Rattle.rules.specs.Eviction.{blockBefore};
+ghost use Rattle.rules.specs.Eviction.{hashBefore, blockBefore};
 use cells::byte_at;
 use cells::hash_at;
 use cells::hash_less;
@@ -28,7 +27,7 @@ use rules::HeadSlot;
 pub fn is_used(tips: &[u32], head: HeadSlot) -> bool
     ensures { λ r. ⌜ r ≡ used (now (tips .entry)) (head .0) ⌝ }
 {
-    word_at(tips, head.0) != BlockSlot::NONE_REF
+    word_at(tips, head.0) != BlockSlot::NONE_REF.0
 }
 
 pub fn is_connected(connected: &[u8], head: HeadSlot) -> bool
@@ -49,11 +48,10 @@ pub fn is_stored(tips: &[u32], connected: &[u8], head: HeadSlot) -> bool
 pub fn slot_of_head(tips: &[u32], tip: BlockSlot) -> FoundHead
     ensures { λ r. ⌜ headFound r ≡ slotOfHead (now (tips .entry)) (tip .0) ⌝ }
 {
-    let wanted = tip.0;
-    if wanted == BlockSlot::NONE_REF {
+    if tip.0 == BlockSlot::NONE_REF.0 {
         return FoundHead::Nothing;
     }
-    head_with(tips, wanted)
+    head_with(tips, tip)
 }
 
 pub fn first_empty(tips: &[u32]) -> FoundHead
@@ -62,10 +60,10 @@ pub fn first_empty(tips: &[u32]) -> FoundHead
     head_with(tips, BlockSlot::NONE_REF)
 }
 
-fn head_with(tips: &[u32], value: u32) -> FoundHead
-    ensures { λ r. ⌜ headFound r ≡ lowest (λ (k : ℕ). eqb (tipAt (now (tips .entry)) k) value) (slotsOf (now (tips .entry))) ⌝ }
+fn head_with(tips: &[u32], tip: BlockSlot) -> FoundHead
+    ensures { λ r. ⌜ headFound r ≡ lowest (λ (k : ℕ). eqb (tipAt (now (tips .entry)) k) (tip .0)) (slotsOf (now (tips .entry))) ⌝ }
 {
-    let k = next_at(tips, 0, value);
+    let k = next_at(tips, 0, tip.0);
     if k < slots(tips) {
         return FoundHead::At(HeadSlot(k));
     }
@@ -73,7 +71,7 @@ fn head_with(tips: &[u32], value: u32) -> FoundHead
 }
 
 pub fn count(tips: &[u32]) -> u32
-    ensures { λ r. ⌜ r ≡ countBelow (used (now (tips .entry))) (slotsOf (now (tips .entry))) ⌝ }
+    ensures { λ r. ⌜ r ≡ headCount (now (tips .entry)) ⌝ }
 {
     let m = slots(tips);
     let mut heads: u32 = 0;
@@ -88,7 +86,7 @@ pub fn count(tips: &[u32]) -> u32
 }
 
 pub fn has_stored_head(tips: &[u32], connected: &[u8]) -> bool
-    ensures { λ r. ⌜ r ≡ isSome (lowest (stored (now (tips .entry)) (now (connected .entry))) (slotsOf (now (tips .entry)))) ⌝ }
+    ensures { λ r. ⌜ r ≡ hasStoredHead (now (tips .entry)) (now (connected .entry)) ⌝ }
 {
     let m = slots(tips);
     let mut k: u32 = 0;
@@ -124,7 +122,7 @@ pub fn put_head(
 }
 
 pub fn hash_before(hashes: &[u8], a: BlockSlot, b: BlockSlot) -> bool
-    ensures { λ r. ⌜ r ≡ hashLess (hashAt (now (hashes .entry)) (a .0)) (hashAt (now (hashes .entry)) (b .0)) ⌝ }
+    ensures { λ r. ⌜ r ≡ hashBefore (now (hashes .entry)) (a .0) (b .0) ⌝ }
 {
     hash_less(hash_at(hashes, a.0), hash_at(hashes, b.0))
 }

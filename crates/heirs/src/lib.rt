@@ -1,12 +1,9 @@
 // Which heads lost their tip, and which of them moves to the root's parent.
 ghost use mathlib.Core.Path.{_≡_};
-ghost use mathlib.Core.Bool.{not, _&&_};
-ghost use mathlib.Core.Option.{none};
-ghost use Rattle.rules.specs.Common.{if_then_else_, isSome, lowest};
-ghost use Rattle.rules.specs.Records.{slotsOf, occupied};
-ghost use Rattle.rules.specs.BlockTable.{childless};
+ghost use Rattle.rules.specs.Common.{isSome, lowest};
+ghost use Rattle.rules.specs.Records.{slotsOf};
 ghost use Rattle.rules.specs.Caches.{slotOfHead};
-ghost use Rattle.rules.specs.Removal.{listed, headFreed};
+ghost use Rattle.rules.specs.Removal.{listed, headFreed, takesOver, heir as heirRule};
 ghost use Rattle.rules.specs.Answers.{headFound};
 use blocks::is_occupied;
 use cells::slots;
@@ -50,8 +47,7 @@ fn is_head(tips: &[u32], slot: BlockSlot) -> bool
 }
 
 fn takes_over(parents: &[u32], sequences: &[u32], tips: &[u32], reattach: BlockSlot) -> bool
-    ensures { λ r. ⌜ r ≡ (occupied (now (sequences .entry)) (reattach .0) && not (isSome (slotOfHead (now (tips .entry)) (reattach .0)))
-        && childless (now (parents .entry)) (now (sequences .entry)) (reattach .0)) ⌝ }
+    ensures { λ r. ⌜ r ≡ takesOver (now (parents .entry)) (now (sequences .entry)) (now (tips .entry)) (reattach .0) ⌝ }
 {
     if !is_occupied(sequences, reattach) {
         return false;
@@ -84,9 +80,7 @@ pub fn heir(
     deleted: &[u32],
     reattach: BlockSlot,
 ) -> FoundHead
-    ensures { λ r. ⌜ headFound r ≡ (if occupied (now (sequences .entry)) (reattach .0) && not (isSome (slotOfHead (now (tips .entry)) (reattach .0)))
-        && childless (now (parents .entry)) (now (sequences .entry)) (reattach .0)
-        then lowest (headFreed (now (deleted .entry)) (now (tips .entry))) (slotsOf (now (tips .entry))) else none) ⌝ }
+    ensures { λ r. ⌜ headFound r ≡ heirRule (now (parents .entry)) (now (sequences .entry)) (now (tips .entry)) (now (deleted .entry)) (reattach .0) ⌝ }
 {
     if takes_over(parents, sequences, tips, reattach) {
         return first_freed(deleted, tips);

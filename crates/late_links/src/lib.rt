@@ -1,14 +1,12 @@
 // Late tails: blocks that waited for the new one are linked to it.
 ghost use mathlib.Core.Path.{_≡_};
-ghost use mathlib.Core.Bool.{_&&_};
 ghost use Prim.Native.Nat.{suc};
 ghost use lib.Dec.{eqb};
 ghost use lib.IntN.{pos};
-ghost use lib.ListN.{getD};
 ghost use Rattle.rules.specs.Hashes.{hashAt};
-ghost use Rattle.rules.specs.Records.{headsOf, tablesOf, stored};
+ghost use Rattle.rules.specs.Records.{headsOf, tablesOf};
 ghost use Rattle.rules.specs.BlockTable.{adjustCounts};
-ghost use Rattle.rules.specs.Admission.{misses as missesRule, late, joined as joinedRule, link as linkRule, linkLate, linkTails};
+ghost use Rattle.rules.specs.Admission.{misses as missesRule, mayMiss, late, joined as joinedRule, link as linkRule, linkLate, linkTails};
 use block_changes::resolve_parent_ref;
 use block_counts::adjust_head_ref_count;
 use blocks::is_occupied;
@@ -46,7 +44,7 @@ pub fn misses(
 
 // Cheap: a head that fails this test does not miss any hash with this first byte.
 pub fn may_miss(tips: &[u32], missing: &[u8], connected: &[u8], first: u8, head: HeadSlot) -> bool
-    ensures { λ r. ⌜ r ≡ (eqb (getD (hashAt (now (missing .entry)) (head .0)) 0 0) first && stored (now (tips .entry)) (now (connected .entry)) (head .0)) ⌝ }
+    ensures { λ r. ⌜ r ≡ mayMiss (now (tips .entry)) (now (missing .entry)) (now (connected .entry)) first (head .0) ⌝ }
 {
     if first_byte(missing, head.0) != first {
         return false;
@@ -93,19 +91,19 @@ fn is_late(
     if !is_occupied(sequences, BlockSlot(tail)) {
         return false;
     }
-    if word_at(parents, tail) != BlockSlot::NONE_REF {
+    if word_at(parents, tail) != BlockSlot::NONE_REF.0 {
         return false;
     }
-    comes_after(word_at(sequences, tail), sequence)
+    comes_after(Sequence(word_at(sequences, tail)), sequence)
 }
 
-fn comes_after(higher: u32, lower: Sequence) -> bool
-    ensures { λ r. ⌜ r ≡ eqb higher (suc (lower .0)) ⌝ }
+fn comes_after(higher: Sequence, lower: Sequence) -> bool
+    ensures { λ r. ⌜ r ≡ eqb (higher .0) (suc (lower .0)) ⌝ }
 {
-    if higher == 0 {
+    if higher.0 == 0 {
         return false;
     }
-    higher - 1 == lower.0
+    higher.0 - 1 == lower.0
 }
 
 // The new block's own head is emptied if it has one, else it counts one more.

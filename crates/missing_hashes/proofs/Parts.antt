@@ -1,15 +1,30 @@
--- The missing hash is a hash of one buffer or the other; a hash put where it stands already changes nothing.
-use mathlib.Core.Path.{_≡_, refl, ap, _∙_}
+-- What a buffer has of a place of hashes; the missing hash is that of one buffer or the other; a hash put where it stands already
+-- changes nothing.
+use mathlib.Core.Path.{_≡_, refl, sym, ap, _∙_}
 use mathlib.Core.Logic.{_≢_}
 use mathlib.Core.List.{List}
-use Prim.Native.Nat.{ℕ, zero, suc, _*_}
+use Prim.Native.Nat.{ℕ, zero, suc, _+_, _-_, _*_, min}
 use native.Mathlib.Nat.{zero-add}
+use native.Mathlib.Omega.{arith}
 use borrow.Author.Tests.{eq-eqb, ne-eqb}
-use lib.ListN.{getD, take, drop}
-use lib.Seq.{sets, getD-take, getD-drop, set-getD}
+use lib.ListN.{length, getD, take, drop, length-drop, drop-of-length-le}
+use lib.Seq.{sets, take-all, getD-take, getD-drop, set-getD}
 use Rattle.rules.specs.Hashes.{hashLength, bytesFrom, hashAt, putHash}
 use Rattle.rules.specs.Caches.{missingPart}
 use Rattle.rules.proofs.Hashes.{bytes-length, bytes-at, hash-is}
+use Rattle.rules.proofs.Splits.{less?}
+
+-- from `start` to `end`, both held at the end of the list
+module _ (l : List ℕ) (from size start end : ℕ) (s : start ≡ min from (length l)) (e : end ≡ min (from + size) (length l)) where
+  start-held : drop start l ≡ drop from l
+  start-held = less? (length l) from
+      (λ past. drop-of-length-le l {i = start} (omega arith) ∙ sym (drop-of-length-le l {i = from} (omega arith)))
+      (λ within. let same : start ≡ from = omega arith in rw same)
+
+  pub part-held : take (end - start) (drop start l) ≡ take size (drop from l)
+  part-held = less? (length l) (from + size)
+      (λ past. take-all (end - start) (drop start l) (rw length-drop (omega arith)) ∙ start-held ∙ sym (take-all size (drop from l) (rw length-drop (omega arith))))
+      (λ within. let whole : end - start ≡ size = omega arith in rw (start-held, whole))
 
 part-hash : (bytes : List ℕ) (k : ℕ) → hashAt (take hashLength (drop (k * hashLength) bytes)) 0 ≡ hashAt bytes k
 unfolding hashAt
@@ -20,9 +35,10 @@ part-hash bytes k =
     ∙ getD-take hashLength (drop (k * hashLength) bytes) j 0 l ∙ getD-drop (k * hashLength) bytes j 0)
 
 module _ (previous missing : List ℕ) (tail arriving k : ℕ) where
-  pub missing-arriving : tail ≡ arriving → hashAt (missingPart previous missing tail arriving k) 0 ≡ hashAt previous 0
+  -- which head knows does not matter then
+  pub part-arriving : (j : ℕ) → tail ≡ arriving → missingPart previous missing tail arriving j ≡ missingPart previous missing tail arriving k
   unfolding missingPart
-  missing-arriving e = rw (eq-eqb tail arriving e) (part-hash previous 0)
+  part-arriving j e = rw (eq-eqb tail arriving e)
 
   pub missing-known : tail ≢ arriving → hashAt (missingPart previous missing tail arriving k) 0 ≡ hashAt missing k
   unfolding missingPart

@@ -1,18 +1,14 @@
 -- With another tail no head waits; with this tail a stored one does.
-use mathlib.Core.Path.{_≡_, refl}
+use mathlib.Core.Path.{_≡_}
 use mathlib.Core.Logic.{_≢_}
-use mathlib.Core.Bool.{Bool, true, false, _&&_}
+use mathlib.Core.Bool.{false}
 use mathlib.Core.List.{List}
 use Prim.Native.Nat.{ℕ}
 use borrow.Author.Tests.{eq-eqb, ne-eqb}
 use lib.Dec.{eqb}
 use Rattle.rules.specs.Records.{tailAt, stored}
 use Rattle.rules.specs.Caches.{waitsAt}
-use Rattle.rules.proofs.Splits.{and-false-r}
-
-and-true-r : (a b : Bool) → b ≡ true → (a && b) ≡ a
-and-true-r true b e = e
-and-true-r false b e = refl
+use Rattle.rules.proofs.Splits.{and-true-r, and-false-r}
 
 module _ (tips tails connected : List ℕ) (i k : ℕ) where
   pub waits-elsewhere : tailAt tails k ≢ i → waitsAt tips tails connected i k ≡ false

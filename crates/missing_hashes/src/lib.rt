@@ -1,7 +1,9 @@
 // The missing hash of a head.
 ghost use mathlib.Core.Path.{_≡_};
-ghost use Rattle.rules.specs.Hashes.{hashAt, putHash};
-ghost use Rattle.rules.specs.Caches.{waitsAt, knowing as knowingRule, missingPart};
+ghost use Prim.Native.Nat.{_*_, min};
+ghost use lib.ListN.{take, drop};
+ghost use Rattle.rules.specs.Hashes.{hashLength};
+ghost use Rattle.rules.specs.Caches.{waitsAt, knowing as knowingRule, missingPart, missingKept};
 use cells::hash_at;
 use cells::next_at;
 use cells::put_hash;
@@ -65,7 +67,39 @@ fn knowing_by_head(
     head
 }
 
-// The previous hash where the tail is the arriving block, else what a head with this tail knows; the head's own stands already.
+fn least(a: usize, b: usize) -> usize
+    ensures { λ r. ⌜ r ≡ min a b ⌝ }
+{
+    if a < b { a } else { b }
+}
+
+// What a buffer has of the 32 bytes in a place of hashes.
+fn hash_part<'a>(bytes: &'a [u8], at: u32) -> &'a [u8]
+    ensures { λ r. ⌜ now r ≡ take hashLength (drop (at * hashLength) (now (bytes .entry))) ⌝ }
+{
+    let from = at as usize * 32;
+    let start = least(from, bytes.len());
+    let end = least(from + 32, bytes.len());
+    &bytes[start..end]
+}
+
+// A part of the arriving block's previous hash where the tail is that block, else of what the heads know.
+pub fn missing_part<'a>(
+    previous: &'a [u8],
+    missing: &'a [u8],
+    tail: BlockSlot,
+    arriving: BlockSlot,
+    known: HeadSlot,
+) -> &'a [u8]
+    ensures { λ r. ⌜ now r ≡ missingPart (now (previous .entry)) (now (missing .entry)) (tail .0) (arriving .0) (known .0) ⌝ }
+{
+    if tail.0 == arriving.0 {
+        return hash_part(previous, 0);
+    }
+    hash_part(missing, known.0)
+}
+
+// From the part that the tail picks; a head that knows its own keeps it.
 pub fn keep_missing_hash(
     tips: &[u32],
     tails: &[u32],
@@ -77,16 +111,15 @@ pub fn keep_missing_hash(
     previous: &[u8],
 )
     ensures { λ _. ⌜ now (missing .exit)
-        ≡ putHash (now (missing .entry)) (head .0) (hashAt (missingPart (now (previous .entry)) (now (missing .entry)) (tail .0) (arriving .0)
-        (knowingRule (now (tips .entry)) (now (tails .entry)) (now (connected .entry)) (tail .0) (head .0))) 0) ⌝ }
+        ≡ missingKept (now (tips .entry)) (now (tails .entry)) (now (missing .entry)) (now (connected .entry)) (head .0) (tail .0) (arriving .0) (now (previous .entry)) ⌝ }
 {
-    if tail.0 == arriving.0 {
-        put_hash(missing, head.0, hash_at(previous, 0));
-        return;
+    let mut known = head;
+    if tail.0 != arriving.0 {
+        known = knowing(tips, tails, connected, tail, head);
+        if known.0 == head.0 {
+            return;
+        }
     }
-    let known = knowing(tips, tails, connected, tail, head);
-    if known.0 != head.0 {
-        let hash = hash_at(missing, known.0);
-        put_hash(missing, head.0, hash);
-    }
+    let hash = hash_at(missing_part(previous, missing, tail, arriving, known), 0);
+    put_hash(missing, head.0, hash);
 }

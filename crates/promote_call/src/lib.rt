@@ -22,7 +22,7 @@ use shape::is_shaped;
 fn is_next(parents: &[u32], active: BlockSlot, slot: BlockSlot) -> bool
     ensures { λ r. ⌜ r ≡ (eqb (active .0) NONE || eqb (parentAt (now (parents .entry)) (slot .0)) (active .0)) ⌝ }
 {
-    if active.0 == BlockSlot::NONE_REF {
+    if active.0 == BlockSlot::NONE_REF.0 {
         return true;
     }
     word_at(parents, slot.0) == active.0
@@ -80,17 +80,17 @@ pub fn promote_at(
     requested: &mut [u64],
     arrivals: &[u64],
     connected: &mut [u8],
-    active: u32,
+    active: BlockSlot,
     slot: BlockSlot,
 ) -> Recorded
     ensures { λ r. ⌜ (outcomeSaid (r .outcome) ≡ promoteRule (stateOf (tablesOf (now (hashes .entry)) (now (parents .entry)) (now (sequences .entry)) (now (counts .entry)) (now (flags .entry))
-        (now (tips .entry)) (now (tails .entry)) (now (missing .entry)) (now (requested .entry)) (now (arrivals .entry)) (now (connected .entry))) active) (slot .0) .answer)
-        × ((r .active ≡ promoteRule (stateOf (tablesOf (now (hashes .entry)) (now (parents .entry)) (now (sequences .entry)) (now (counts .entry)) (now (flags .entry))
-        (now (tips .entry)) (now (tails .entry)) (now (missing .entry)) (now (requested .entry)) (now (arrivals .entry)) (now (connected .entry))) active) (slot .0) .after .activeHead)
+        (now (tips .entry)) (now (tails .entry)) (now (missing .entry)) (now (requested .entry)) (now (arrivals .entry)) (now (connected .entry))) (active .0)) (slot .0) .answer)
+        × ((r .active .0 ≡ promoteRule (stateOf (tablesOf (now (hashes .entry)) (now (parents .entry)) (now (sequences .entry)) (now (counts .entry)) (now (flags .entry))
+        (now (tips .entry)) (now (tails .entry)) (now (missing .entry)) (now (requested .entry)) (now (arrivals .entry)) (now (connected .entry))) (active .0)) (slot .0) .after .activeHead)
         × (tablesOf (now (hashes .entry)) (now (parents .entry)) (now (sequences .entry)) (now (counts .entry)) (now (flags .exit))
         (now (tips .entry)) (now (tails .exit)) (now (missing .exit)) (now (requested .exit)) (now (arrivals .entry)) (now (connected .exit))
         ≡ promoteRule (stateOf (tablesOf (now (hashes .entry)) (now (parents .entry)) (now (sequences .entry)) (now (counts .entry)) (now (flags .entry))
-        (now (tips .entry)) (now (tails .entry)) (now (missing .entry)) (now (requested .entry)) (now (arrivals .entry)) (now (connected .entry))) active) (slot .0) .after .tables)) ⌝ }
+        (now (tips .entry)) (now (tails .entry)) (now (missing .entry)) (now (requested .entry)) (now (arrivals .entry)) (now (connected .entry))) (active .0)) (slot .0) .after .tables)) ⌝ }
 {
     if !is_shaped(
         hashes,
@@ -116,7 +116,7 @@ pub fn promote_at(
             active,
         };
     }
-    if !is_next(parents, BlockSlot(active), slot) {
+    if !is_next(parents, active, slot) {
         return Recorded {
             outcome: Outcome::Refused(Refusal::NotNext),
             active,
@@ -138,6 +138,6 @@ pub fn promote_at(
     );
     Recorded {
         outcome: Outcome::Done,
-        active: slot.0,
+        active: slot,
     }
 }

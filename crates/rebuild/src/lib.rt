@@ -75,7 +75,7 @@ fn rebuild_at(
             connected,
             slot,
             arrival,
-            BlockSlot(BlockSlot::NONE_REF),
+            BlockSlot::NONE_REF,
             &zeros,
             active,
         );

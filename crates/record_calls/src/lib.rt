@@ -11,7 +11,7 @@ use rules::Outcome;
 // The slot of the active head, or NONE_REF.
 #[repr(C)]
 pub struct ActiveHead {
-    pub slot: u32,
+    pub slot: BlockSlot,
 }
 
 pub fn promote(
@@ -30,13 +30,13 @@ pub fn promote(
     slot: BlockSlot,
 ) -> Outcome
     ensures { λ r. ⌜ (outcomeSaid r ≡ promoteRule (stateOf (tablesOf (now (hashes .entry)) (now (parents .entry)) (now (sequences .entry)) (now (counts .entry)) (now (flags .entry))
-        (now (tips .entry)) (now (tails .entry)) (now (missing .entry)) (now (requested .entry)) (now (arrivals .entry)) (now (connected .entry))) (now (held .entry) .slot)) (slot .0) .answer)
-        × ((now (held .exit) .slot ≡ promoteRule (stateOf (tablesOf (now (hashes .entry)) (now (parents .entry)) (now (sequences .entry)) (now (counts .entry)) (now (flags .entry))
-        (now (tips .entry)) (now (tails .entry)) (now (missing .entry)) (now (requested .entry)) (now (arrivals .entry)) (now (connected .entry))) (now (held .entry) .slot)) (slot .0) .after .activeHead)
+        (now (tips .entry)) (now (tails .entry)) (now (missing .entry)) (now (requested .entry)) (now (arrivals .entry)) (now (connected .entry))) (now (held .entry) .slot .0)) (slot .0) .answer)
+        × ((now (held .exit) .slot .0 ≡ promoteRule (stateOf (tablesOf (now (hashes .entry)) (now (parents .entry)) (now (sequences .entry)) (now (counts .entry)) (now (flags .entry))
+        (now (tips .entry)) (now (tails .entry)) (now (missing .entry)) (now (requested .entry)) (now (arrivals .entry)) (now (connected .entry))) (now (held .entry) .slot .0)) (slot .0) .after .activeHead)
         × (tablesOf (now (hashes .entry)) (now (parents .entry)) (now (sequences .entry)) (now (counts .entry)) (now (flags .exit))
         (now (tips .entry)) (now (tails .exit)) (now (missing .exit)) (now (requested .exit)) (now (arrivals .entry)) (now (connected .exit))
         ≡ promoteRule (stateOf (tablesOf (now (hashes .entry)) (now (parents .entry)) (now (sequences .entry)) (now (counts .entry)) (now (flags .entry))
-        (now (tips .entry)) (now (tails .entry)) (now (missing .entry)) (now (requested .entry)) (now (arrivals .entry)) (now (connected .entry))) (now (held .entry) .slot)) (slot .0) .after .tables)) ⌝ }
+        (now (tips .entry)) (now (tails .entry)) (now (missing .entry)) (now (requested .entry)) (now (arrivals .entry)) (now (connected .entry))) (now (held .entry) .slot .0)) (slot .0) .after .tables)) ⌝ }
 {
     let promoted = promote_at(
         hashes,
@@ -72,13 +72,13 @@ pub fn fresh(
     held: &mut ActiveHead,
 ) -> Outcome
     ensures { λ r. ⌜ (outcomeSaid r ≡ freshRule (stateOf (tablesOf (now (hashes .entry)) (now (parents .entry)) (now (sequences .entry)) (now (counts .entry)) (now (flags .entry))
-        (now (tips .entry)) (now (tails .entry)) (now (missing .entry)) (now (requested .entry)) (now (arrivals .entry)) (now (connected .entry))) (now (held .entry) .slot)) .answer)
-        × ((now (held .exit) .slot ≡ freshRule (stateOf (tablesOf (now (hashes .entry)) (now (parents .entry)) (now (sequences .entry)) (now (counts .entry)) (now (flags .entry))
-        (now (tips .entry)) (now (tails .entry)) (now (missing .entry)) (now (requested .entry)) (now (arrivals .entry)) (now (connected .entry))) (now (held .entry) .slot)) .after .activeHead)
+        (now (tips .entry)) (now (tails .entry)) (now (missing .entry)) (now (requested .entry)) (now (arrivals .entry)) (now (connected .entry))) (now (held .entry) .slot .0)) .answer)
+        × ((now (held .exit) .slot .0 ≡ freshRule (stateOf (tablesOf (now (hashes .entry)) (now (parents .entry)) (now (sequences .entry)) (now (counts .entry)) (now (flags .entry))
+        (now (tips .entry)) (now (tails .entry)) (now (missing .entry)) (now (requested .entry)) (now (arrivals .entry)) (now (connected .entry))) (now (held .entry) .slot .0)) .after .activeHead)
         × (tablesOf (now (hashes .exit)) (now (parents .exit)) (now (sequences .exit)) (now (counts .exit)) (now (flags .exit))
         (now (tips .exit)) (now (tails .exit)) (now (missing .exit)) (now (requested .exit)) (now (arrivals .exit)) (now (connected .exit))
         ≡ freshRule (stateOf (tablesOf (now (hashes .entry)) (now (parents .entry)) (now (sequences .entry)) (now (counts .entry)) (now (flags .entry))
-        (now (tips .entry)) (now (tails .entry)) (now (missing .entry)) (now (requested .entry)) (now (arrivals .entry)) (now (connected .entry))) (now (held .entry) .slot)) .after .tables)) ⌝ }
+        (now (tips .entry)) (now (tails .entry)) (now (missing .entry)) (now (requested .entry)) (now (arrivals .entry)) (now (connected .entry))) (now (held .entry) .slot .0)) .after .tables)) ⌝ }
 {
     let emptied = fresh_at(
         hashes,

@@ -1,9 +1,8 @@
 // Looking at the heads, and the rank of a branch.
 ghost use mathlib.Core.Path.{_≡_};
 ghost use Rattle.as_numbers.specs.Numbers.{orNone, yes, anchorNumber};
-ghost use Rattle.rules.specs.Common.{countBelow, isSome, lowest};
 ghost use Rattle.rules.specs.Hashes.{hashAt};
-ghost use Rattle.rules.specs.Records.{slotsOf, used, stored};
+ghost use Rattle.rules.specs.Records.{headCount, hasStoredHead};
 ghost use Rattle.rules.specs.Anchor.{locateAnchor};
 ghost use Rattle.rules.specs.Caches.{slotOfHead};
 ghost use Rattle.rules.specs.Rank.{outranks};
@@ -16,14 +15,14 @@ use rules::BlockSlot;
 
 #[no_mangle]
 pub extern "C" fn station_count(tips: &[u32]) -> u32
-    ensures { λ r. ⌜ r ≡ countBelow (used (now (tips .entry))) (slotsOf (now (tips .entry))) ⌝ }
+    ensures { λ r. ⌜ r ≡ headCount (now (tips .entry)) ⌝ }
 {
     heads::count(tips)
 }
 
 #[no_mangle]
 pub extern "C" fn station_has_stored_head(tips: &[u32], connected: &[u8]) -> u32
-    ensures { λ r. ⌜ r ≡ yes (isSome (lowest (stored (now (tips .entry)) (now (connected .entry))) (slotsOf (now (tips .entry))))) ⌝ }
+    ensures { λ r. ⌜ r ≡ yes (hasStoredHead (now (tips .entry)) (now (connected .entry))) ⌝ }
 {
     said(heads::has_stored_head(tips, connected))
 }

@@ -6,8 +6,13 @@ ghost use Rattle.call_numbers.specs.Numbers.{answerNumber};
 use call_numbers::outcome_number;
 use fresh_call::fresh_at;
 use promote_call::promote_at;
-use record_calls::ActiveHead;
 use rules::BlockSlot;
+
+// The record as C has it, its slot a number.
+#[repr(C)]
+pub struct ActiveSlot {
+    pub slot: u32,
+}
 
 // The answer, and what the record then holds.
 struct Kept {
@@ -51,13 +56,13 @@ fn promote_kept(
         requested,
         arrivals,
         connected,
-        active,
+        BlockSlot(active),
         BlockSlot(slot),
     );
     let outcome = recorded.outcome;
     Kept {
         answer: outcome_number(outcome),
-        active: recorded.active,
+        active: recorded.active.0,
     }
 }
 
@@ -96,12 +101,12 @@ fn fresh_kept(
         requested,
         arrivals,
         connected,
-        active,
+        BlockSlot(active),
     );
     let outcome = recorded.outcome;
     Kept {
         answer: outcome_number(outcome),
-        active: recorded.active,
+        active: recorded.active.0,
     }
 }
 
@@ -118,7 +123,7 @@ pub extern "C" fn station_promote(
     requested: &mut [u64],
     arrivals: &[u64],
     connected: &mut [u8],
-    held: &mut ActiveHead,
+    held: &mut ActiveSlot,
     slot: u32,
 ) -> u64
     ensures { λ r. ⌜ (r ≡ answerNumber (promoteRule (stateOf (tablesOf (now (hashes .entry)) (now (parents .entry)) (now (sequences .entry)) (now (counts .entry)) (now (flags .entry))
@@ -162,7 +167,7 @@ pub extern "C" fn station_fresh(
     requested: &mut [u64],
     arrivals: &mut [u64],
     connected: &mut [u8],
-    held: &mut ActiveHead,
+    held: &mut ActiveSlot,
 ) -> u64
     ensures { λ r. ⌜ (r ≡ answerNumber (freshRule (stateOf (tablesOf (now (hashes .entry)) (now (parents .entry)) (now (sequences .entry)) (now (counts .entry)) (now (flags .entry))
         (now (tips .entry)) (now (tails .entry)) (now (missing .entry)) (now (requested .entry)) (now (arrivals .entry)) (now (connected .entry))) (now (held .entry) .slot)) .answer))

@@ -23,29 +23,35 @@ const REACHES: u8 = 1;
 const MISSES: u8 = 2;
 
 // Where the walk goes from here; NONE_REF where it ends.
-fn above(parents: &[u32], sequences: &[u32], root: BlockSlot, known: &[u8], slot: u32) -> u32
-    ensures { λ r. ⌜ r ≡ aboveRule (now (parents .entry)) (now (sequences .entry)) (root .0) (now (known .entry)) slot ⌝ }
+fn above(
+    parents: &[u32],
+    sequences: &[u32],
+    root: BlockSlot,
+    known: &[u8],
+    slot: BlockSlot,
+) -> BlockSlot
+    ensures { λ r. ⌜ r .0 ≡ aboveRule (now (parents .entry)) (now (sequences .entry)) (root .0) (now (known .entry)) (slot .0) ⌝ }
 {
-    if slot == root.0 {
+    if slot.0 == root.0 {
         return BlockSlot::NONE_REF;
     }
-    if byte_at(known, slot) != 0 {
+    if byte_at(known, slot.0) != 0 {
         return BlockSlot::NONE_REF;
     }
-    if !is_occupied(sequences, BlockSlot(slot)) {
+    if !is_occupied(sequences, slot) {
         return BlockSlot::NONE_REF;
     }
-    word_at(parents, slot)
+    BlockSlot(word_at(parents, slot.0))
 }
 
 // What the slot tells where a walk ends.
-fn told_at(root: BlockSlot, known: &[u8], slot: u32) -> u8
-    ensures { λ r. ⌜ r ≡ told (root .0) (now (known .entry)) slot ⌝ }
+fn told_at(root: BlockSlot, known: &[u8], slot: BlockSlot) -> u8
+    ensures { λ r. ⌜ r ≡ told (root .0) (now (known .entry)) (slot .0) ⌝ }
 {
-    if slot == root.0 {
+    if slot.0 == root.0 {
         return REACHES;
     }
-    let byte = byte_at(known, slot);
+    let byte = byte_at(known, slot.0);
     if byte == 0 {
         return MISSES;
     }
@@ -53,18 +59,18 @@ fn told_at(root: BlockSlot, known: &[u8], slot: u32) -> u8
 }
 
 // What is told of an occupied slot without a walk; 0 where neither it nor its parent is known.
-fn told_at_once(parents: &[u32], root: BlockSlot, known: &[u8], slot: u32) -> u8
-    ensures { λ r. ⌜ r ≡ atOnce (now (parents .entry)) (root .0) (now (known .entry)) slot ⌝ }
+fn told_at_once(parents: &[u32], root: BlockSlot, known: &[u8], slot: BlockSlot) -> u8
+    ensures { λ r. ⌜ r ≡ atOnce (now (parents .entry)) (root .0) (now (known .entry)) (slot .0) ⌝ }
 {
-    let byte = byte_at(known, slot);
+    let byte = byte_at(known, slot.0);
     if byte != 0 {
         return byte;
     }
-    if slot == root.0 {
+    if slot.0 == root.0 {
         return REACHES;
     }
-    let parent = word_at(parents, slot);
-    if parent == BlockSlot::NONE_REF {
+    let parent = word_at(parents, slot.0);
+    if parent == BlockSlot::NONE_REF.0 {
         return MISSES;
     }
     byte_at(known, parent)
@@ -81,11 +87,11 @@ fn verdict(
         → reaches (now (parents .entry)) (now (sequences .entry)) (root .0) (slotsOf (now (sequences .entry))) (start .0) ≡ eqb r 1) ⌝ }
 {
     let n = slots(sequences);
-    let mut current = start.0;
+    let mut current = start;
     let mut tries: u32 = 0;
     while tries < n {
         let next = above(parents, sequences, root, known, current);
-        if next == BlockSlot::NONE_REF {
+        if next.0 == BlockSlot::NONE_REF.0 {
             return told_at(root, known, current);
         }
         current = next;
@@ -108,12 +114,12 @@ fn remember(
         → Right (now (parents .entry)) (now (sequences .entry)) (root .0) (now (known .exit))) ⌝ }
 {
     let n = slots(sequences);
-    let mut current = start.0;
+    let mut current = start;
     let mut tries: u32 = 0;
     while tries < n {
         let next = above(parents, sequences, root, known, current);
-        put_byte(known, current, byte);
-        if next == BlockSlot::NONE_REF {
+        put_byte(known, current.0, byte);
+        if next.0 == BlockSlot::NONE_REF.0 {
             return;
         }
         current = next;
@@ -135,7 +141,7 @@ fn is_under(
     if !is_occupied(sequences, slot) {
         return false;
     }
-    let told = told_at_once(parents, root, known, slot.0);
+    let told = told_at_once(parents, root, known, slot);
     if told != 0 {
         put_byte(known, slot.0, told);
         return told == REACHES;

@@ -33,7 +33,7 @@ fn has_outgrown(
     if !is_occupied(sequences, BlockSlot(tail)) {
         return false;
     }
-    word_at(parents, tail) != BlockSlot::NONE_REF
+    word_at(parents, tail) != BlockSlot::NONE_REF.0
 }
 
 fn refresh_outgrown(

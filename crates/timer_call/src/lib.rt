@@ -4,7 +4,7 @@ ghost use Prim.Native.Nat.{ℕ};
 ghost use Rattle.rules.specs.Hashes.{zeroHash};
 ghost use Rattle.rules.specs.Records.{tablesOf};
 ghost use Rattle.rules.specs.Timer.{spanOr};
-ghost use Rattle.rules.specs.Answers.{spanGiven, timerSaid, deadlineSaid};
+ghost use Rattle.rules.specs.Answers.{spanGiven, timerSaid, hashAsked, deadlineSaid};
 ghost use Rattle.rules.specs.Calls.{stateOf, timer as timerRule, earliestDeadline};
 use cells::hash_at;
 use rules::Deadline;
@@ -56,10 +56,12 @@ pub fn timer(
 ) -> TimerAnswer
     ensures { λ r. ⌜ ((a : ℕ) → (timerSaid r ≡ timerRule (stateOf (tablesOf (now (hashes .entry)) (now (parents .entry)) (now (sequences .entry)) (now (counts .entry)) (now (flags .entry))
         (now (tips .entry)) (now (tails .entry)) (now (missing .entry)) (now (requested .entry)) (now (arrivals .entry)) (now (connected .entry))) a) clock (spanGiven span) .answer)
+        × ((r .missing ≡ hashAsked (timerRule (stateOf (tablesOf (now (hashes .entry)) (now (parents .entry)) (now (sequences .entry)) (now (counts .entry)) (now (flags .entry))
+        (now (tips .entry)) (now (tails .entry)) (now (missing .entry)) (now (requested .entry)) (now (arrivals .entry)) (now (connected .entry))) a) clock (spanGiven span) .answer))
         × (tablesOf (now (hashes .entry)) (now (parents .entry)) (now (sequences .entry)) (now (counts .entry)) (now (flags .entry))
         (now (tips .entry)) (now (tails .entry)) (now (missing .entry)) (now (requested .exit)) (now (arrivals .entry)) (now (connected .entry))
         ≡ timerRule (stateOf (tablesOf (now (hashes .entry)) (now (parents .entry)) (now (sequences .entry)) (now (counts .entry)) (now (flags .entry))
-        (now (tips .entry)) (now (tails .entry)) (now (missing .entry)) (now (requested .entry)) (now (arrivals .entry)) (now (connected .entry))) a) clock (spanGiven span) .after .tables)) ⌝ }
+        (now (tips .entry)) (now (tails .entry)) (now (missing .entry)) (now (requested .entry)) (now (arrivals .entry)) (now (connected .entry))) a) clock (spanGiven span) .after .tables))) ⌝ }
 {
     if !is_shaped(
         hashes,

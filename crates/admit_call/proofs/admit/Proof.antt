@@ -8,6 +8,19 @@ use borrow.Author.Needs.{needs}
 use Rattle.admit_call.proofs.admit.Statement.{statement}
 use Rattle.admit_call.proofs.admit.Tie as tie
 
+-- the places on the way to the block's admission, each from the one after it
+abbrev placed : tie.After-slice-known22 → tie.After-admit-at
+placed c = search
+
+abbrev chosen : tie.After-hash-at → tie.After-slot
+chosen c = search
+
+abbrev replied : tie.After-slot → tie.After-reply
+replied c = search
+
+abbrev start : tie.After-reply → tie.Start
+start c = search
+
 reply-requires : tie.Need-reply-requires
 reply-requires c κs = tt
 
@@ -19,6 +32,9 @@ enum-known-slot c = search needs
 
 hash-at-requires : tie.Need-hash-at-requires
 hash-at-requires c κs = tt
+
+hash-at-requires-2 : tie.Need-hash-at-requires-2
+hash-at-requires-2 c κs = tt
 
 admit-at-requires : tie.Need-admit-at-requires
 admit-at-requires c κs = tt
@@ -98,10 +114,13 @@ same-length-22 c = c .before .before .before .before .before .before .before .be
 
 returns-2 : tie.Need-returns-2
 returns-2 c =
-    let p = c .before .before .before .before .before .before .before .before .before .before .before .before .before .before .before .before .before .before .before .before .before .before .before .before .before .before .before .before .before .before .before .before .before .before .before .before .before .before .before .before .before .before .before .before .before .before .before .before .before .before .before .before .before .before .before .before .before .before .before .before .before .before .before .args in
-    let r = c .before .before .before .before .before .before .before .before .before .before .before .before .before .before .before .before .before .before .before .before .before .before .before .before .before .before .before .before .before .before .before .before .before .before .before .before .before .before .reply .ensures (p .active .0) (p .arrival) in
-    let g = ap admittedSaid (c .before .before .before .before .before .before .before .before .before .before .before .before .before .before .before .before .before .before .before .before .before .before .before .before .before .before .before .before .before .before .before .before .before .before .before .before .slot .given .1) in
-    (sym g ∙ r, c .before .before .before .before .before .before .before .before .before .before .before .before .before .before .before .before .before .before .before .before .before .before .admit-at .ensures ∙ admit-places (stateOf (tablesOf (p .hashes .now) (p .parents .now) (p .sequences .now) (p .counts .now) (p .flags .now) (p .tips .now) (p .tails .now) (p .missing .now) (p .requested .now) (p .arrivals .now) (p .connected .now)) (p .active .0)) (p .sequence .0) (p .hash .now) (p .previous .now) (p .arrival) _ (c .before .before .before .before .before .before .before .before .before .before .before .before .before .before .before .before .before .before .before .before .before .before .before .hash-at .result) (sym r ∙ g) (c .before .before .before .before .before .before .before .before .before .before .before .before .before .before .before .before .before .before .before .before .before .before .before .hash-at .ensures))
+    let a = placed c in
+    let k = chosen (a .before .before) in
+    let y = replied k in
+    let p = start y .args in
+    let r = y .reply .ensures (p .active .0) (p .arrival) in
+    let g = ap admittedSaid (k .slot .given .1) in
+    (sym g ∙ r, a .admit-at .ensures ∙ admit-places _ _ _ _ _ _ _ _ (sym r ∙ g) (a .before .before .hash-at .ensures) (a .before .hash-at2 .ensures))
 
 pub admit-spec : {M : Type 1} → statement M
 admit-spec =
@@ -111,6 +130,7 @@ admit-spec =
     enum-known-why
     enum-known-slot
     hash-at-requires
+    hash-at-requires-2
     admit-at-requires
     same-length
     same-length-2

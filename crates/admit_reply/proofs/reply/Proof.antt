@@ -42,9 +42,9 @@ returns-3 c =
 returns-4 : tie.Need-returns-4
 unfolding admit
 returns-4 c =
-    let p = c .before .before .before .before .before .before .before .before .before .before .before .before .before .before .before .before .before .before .before .args in
-    let e : shaped (tablesOf (p .hashes .now) (p .parents .now) (p .sequences .now) (p .counts .now) (p .flags .now) (p .tips .now) (p .tails .now) (p .missing .now) (p .requested .now) (p .arrivals .now) (p .connected .now)) ≡ true = sym (c .before .before .before .before .before .is-shaped .ensures) ∙ not-false (c .before .before .before .before .before .is-shaped .result) (c .before .before .before .before .if1 .left) in
-    λ a t. rw (e, eq-eqb _ _ (c .before .before .before .if2 .left), eq-eqb _ _ (c .before .before .if3 .left), eq-eqb _ _ (c .if4 .taken))
+    let p = c .before .before .before .before .before .before .before .before .before .before .before .before .before .before .before .before .before .before .before .before .args in
+    let e : shaped (tablesOf (p .hashes .now) (p .parents .now) (p .sequences .now) (p .counts .now) (p .flags .now) (p .tips .now) (p .tails .now) (p .missing .now) (p .requested .now) (p .arrivals .now) (p .connected .now)) ≡ true = sym (c .before .before .before .before .before .before .is-shaped .ensures) ∙ not-false (c .before .before .before .before .before .before .is-shaped .result) (c .before .before .before .before .before .if1 .left) in
+    λ a t. rw (e, eq-eqb _ _ (c .before .before .before .before .if2 .left), eq-eqb _ _ (c .before .before .before .if3 .left), eq-eqb _ _ (c .if4 .taken))
 
 hash-at-requires : tie.Need-hash-at-requires
 hash-at-requires c κs = tt
@@ -55,11 +55,11 @@ same-hash-requires c κs = tt
 returns-5 : tie.Need-returns-5
 unfolding admit
 returns-5 c =
-    let p = c .before .before .before .before .before .before .before .before .before .before .before .before .before .before .before .before .before .before .before .before .before .before .args in
-    let e : shaped (tablesOf (p .hashes .now) (p .parents .now) (p .sequences .now) (p .counts .now) (p .flags .now) (p .tips .now) (p .tails .now) (p .missing .now) (p .requested .now) (p .arrivals .now) (p .connected .now)) ≡ true = sym (c .before .before .before .before .before .before .before .before .is-shaped .ensures) ∙ not-false (c .before .before .before .before .before .before .before .before .is-shaped .result) (c .before .before .before .before .before .before .before .if1 .left) in
-    let o : c .before .before .hash-at .result ≡ p .hash .now = c .before .before .hash-at .ensures ∙ own-hash (p .hash .now) (c .before .before .before .before .before .before .if2 .left) in
+    let p = c .before .before .before .before .before .before .before .before .before .before .before .before .before .before .before .before .before .before .before .before .before .before .before .args in
+    let e : shaped (tablesOf (p .hashes .now) (p .parents .now) (p .sequences .now) (p .counts .now) (p .flags .now) (p .tips .now) (p .tails .now) (p .missing .now) (p .requested .now) (p .arrivals .now) (p .connected .now)) ≡ true = sym (c .before .before .before .before .before .before .before .before .before .is-shaped .ensures) ∙ not-false (c .before .before .before .before .before .before .before .before .before .is-shaped .result) (c .before .before .before .before .before .before .before .before .if1 .left) in
+    let o : c .before .before .hash-at .result ≡ p .hash .now = c .before .before .hash-at .ensures ∙ own-hash (p .hash .now) (c .before .before .before .before .before .before .before .if2 .left) in
     let z : sameHash (p .hash .now) zeroHash ≡ true = ap (λ (x : List ℕ). sameHash x zeroHash) (sym o) ∙ sym (c .before .same-hash .ensures) ∙ c .if5 .taken in
-    λ a t. rw (e, eq-eqb _ _ (c .before .before .before .before .before .before .if2 .left), eq-eqb _ _ (c .before .before .before .before .before .if3 .left), ne-eqb _ _ (c .before .before .before .if4 .left), z)
+    λ a t. rw (e, eq-eqb _ _ (c .before .before .before .before .before .before .before .if2 .left), eq-eqb _ _ (c .before .before .before .before .before .before .if3 .left), ne-eqb _ _ (c .before .before .before .if4 .left), z)
 
 is-known-requires : tie.Need-is-known-requires
 is-known-requires c κs = tt
@@ -67,13 +67,13 @@ is-known-requires c κs = tt
 returns-6 : tie.Need-returns-6
 unfolding admit
 returns-6 c =
-    let p = c .before .before .before .before .before .before .before .before .before .before .before .before .before .before .before .before .before .before .before .before .before .before .before .before .args in
-    let e : shaped (tablesOf (p .hashes .now) (p .parents .now) (p .sequences .now) (p .counts .now) (p .flags .now) (p .tips .now) (p .tails .now) (p .missing .now) (p .requested .now) (p .arrivals .now) (p .connected .now)) ≡ true = sym (c .before .before .before .before .before .before .before .before .before .before .is-shaped .ensures) ∙ not-false (c .before .before .before .before .before .before .before .before .before .before .is-shaped .result) (c .before .before .before .before .before .before .before .before .before .if1 .left) in
-    let o : c .before .before .before .before .hash-at .result ≡ p .hash .now = c .before .before .before .before .hash-at .ensures ∙ own-hash (p .hash .now) (c .before .before .before .before .before .before .before .before .if2 .left) in
+    let p = c .before .before .before .before .before .before .before .before .before .before .before .before .before .before .before .before .before .before .before .before .before .before .before .before .before .args in
+    let e : shaped (tablesOf (p .hashes .now) (p .parents .now) (p .sequences .now) (p .counts .now) (p .flags .now) (p .tips .now) (p .tails .now) (p .missing .now) (p .requested .now) (p .arrivals .now) (p .connected .now)) ≡ true = sym (c .before .before .before .before .before .before .before .before .before .before .before .is-shaped .ensures) ∙ not-false (c .before .before .before .before .before .before .before .before .before .before .before .is-shaped .result) (c .before .before .before .before .before .before .before .before .before .before .if1 .left) in
+    let o : c .before .before .before .before .hash-at .result ≡ p .hash .now = c .before .before .before .before .hash-at .ensures ∙ own-hash (p .hash .now) (c .before .before .before .before .before .before .before .before .before .if2 .left) in
     let z : sameHash (p .hash .now) zeroHash ≡ false = ap (λ (x : List ℕ). sameHash x zeroHash) (sym o) ∙ sym (c .before .before .before .same-hash .ensures) ∙ c .before .before .if5 .left in
     let k : isSome (find (p .hashes .now) (p .sequences .now) (p .sequence .0) (p .hash .now)) ≡ true =
     ap (λ (x : List ℕ). isSome (find (p .hashes .now) (p .sequences .now) (p .sequence .0) x)) (sym o) ∙ sym (c .before .is-known .ensures) ∙ c .if6 .taken in
-    λ a t. rw (e, eq-eqb _ _ (c .before .before .before .before .before .before .before .before .if2 .left), eq-eqb _ _ (c .before .before .before .before .before .before .before .if3 .left), ne-eqb _ _ (c .before .before .before .before .before .if4 .left), z, k)
+    λ a t. rw (e, eq-eqb _ _ (c .before .before .before .before .before .before .before .before .before .if2 .left), eq-eqb _ _ (c .before .before .before .before .before .before .before .before .if3 .left), ne-eqb _ _ (c .before .before .before .before .before .if4 .left), z, k)
 
 next-free-index-requires : tie.Need-next-free-index-requires
 next-free-index-requires c κs = tt
@@ -87,26 +87,26 @@ enum-known-slot c = search needs
 returns-7 : tie.Need-returns-7
 unfolding admit
 returns-7 c =
-    let p = c .before .before .before .before .before .before .before .before .before .before .before .before .before .before .before .before .before .before .before .before .before .before .before .before .before .before .before .args in
-    let e : shaped (tablesOf (p .hashes .now) (p .parents .now) (p .sequences .now) (p .counts .now) (p .flags .now) (p .tips .now) (p .tails .now) (p .missing .now) (p .requested .now) (p .arrivals .now) (p .connected .now)) ≡ true = sym (c .before .before .before .before .before .before .before .before .before .before .before .before .before .is-shaped .ensures) ∙ not-false (c .before .before .before .before .before .before .before .before .before .before .before .before .before .is-shaped .result) (c .before .before .before .before .before .before .before .before .before .before .before .before .if1 .left) in
-    let o : c .before .before .before .before .before .before .before .hash-at .result ≡ p .hash .now = c .before .before .before .before .before .before .before .hash-at .ensures ∙ own-hash (p .hash .now) (c .before .before .before .before .before .before .before .before .before .before .before .if2 .left) in
+    let p = c .before .before .before .before .before .before .before .before .before .before .before .before .before .before .before .before .before .before .before .before .before .before .before .before .before .before .before .before .args in
+    let e : shaped (tablesOf (p .hashes .now) (p .parents .now) (p .sequences .now) (p .counts .now) (p .flags .now) (p .tips .now) (p .tails .now) (p .missing .now) (p .requested .now) (p .arrivals .now) (p .connected .now)) ≡ true = sym (c .before .before .before .before .before .before .before .before .before .before .before .before .before .before .is-shaped .ensures) ∙ not-false (c .before .before .before .before .before .before .before .before .before .before .before .before .before .before .is-shaped .result) (c .before .before .before .before .before .before .before .before .before .before .before .before .before .if1 .left) in
+    let o : c .before .before .before .before .before .before .before .hash-at .result ≡ p .hash .now = c .before .before .before .before .before .before .before .hash-at .ensures ∙ own-hash (p .hash .now) (c .before .before .before .before .before .before .before .before .before .before .before .before .if2 .left) in
     let z : sameHash (p .hash .now) zeroHash ≡ false = ap (λ (x : List ℕ). sameHash x zeroHash) (sym o) ∙ sym (c .before .before .before .before .before .before .same-hash .ensures) ∙ c .before .before .before .before .before .if5 .left in
     let k : isSome (find (p .hashes .now) (p .sequences .now) (p .sequence .0) (p .hash .now)) ≡ false =
     ap (λ (x : List ℕ). isSome (find (p .hashes .now) (p .sequences .now) (p .sequence .0) x)) (sym o) ∙ sym (c .before .before .before .before .is-known .ensures) ∙ c .before .before .before .if6 .left in
     let f = sym (c .before .before .next-free-index .ensures) ∙ ap slotFound (c .enum-told .given .1) in
-    λ a t. rw (e, eq-eqb _ _ (c .before .before .before .before .before .before .before .before .before .before .before .if2 .left), eq-eqb _ _ (c .before .before .before .before .before .before .before .before .before .before .if3 .left), ne-eqb _ _ (c .before .before .before .before .before .before .before .before .if4 .left), z, k, f, admit)
+    λ a t. rw (e, eq-eqb _ _ (c .before .before .before .before .before .before .before .before .before .before .before .before .if2 .left), eq-eqb _ _ (c .before .before .before .before .before .before .before .before .before .before .before .if3 .left), ne-eqb _ _ (c .before .before .before .before .before .before .before .before .if4 .left), z, k, f, admit)
 
 returns-8 : tie.Need-returns-8
 unfolding admit
 returns-8 c =
-    let p = c .before .before .before .before .before .before .before .before .before .before .before .before .before .before .before .before .before .before .before .before .before .before .before .before .before .before .before .before .args in
-    let e : shaped (tablesOf (p .hashes .now) (p .parents .now) (p .sequences .now) (p .counts .now) (p .flags .now) (p .tips .now) (p .tails .now) (p .missing .now) (p .requested .now) (p .arrivals .now) (p .connected .now)) ≡ true = sym (c .before .before .before .before .before .before .before .before .before .before .before .before .before .before .is-shaped .ensures) ∙ not-false (c .before .before .before .before .before .before .before .before .before .before .before .before .before .before .is-shaped .result) (c .before .before .before .before .before .before .before .before .before .before .before .before .before .if1 .left) in
-    let o : c .before .before .before .before .before .before .before .before .hash-at .result ≡ p .hash .now = c .before .before .before .before .before .before .before .before .hash-at .ensures ∙ own-hash (p .hash .now) (c .before .before .before .before .before .before .before .before .before .before .before .before .if2 .left) in
+    let p = c .before .before .before .before .before .before .before .before .before .before .before .before .before .before .before .before .before .before .before .before .before .before .before .before .before .before .before .before .before .args in
+    let e : shaped (tablesOf (p .hashes .now) (p .parents .now) (p .sequences .now) (p .counts .now) (p .flags .now) (p .tips .now) (p .tails .now) (p .missing .now) (p .requested .now) (p .arrivals .now) (p .connected .now)) ≡ true = sym (c .before .before .before .before .before .before .before .before .before .before .before .before .before .before .before .is-shaped .ensures) ∙ not-false (c .before .before .before .before .before .before .before .before .before .before .before .before .before .before .before .is-shaped .result) (c .before .before .before .before .before .before .before .before .before .before .before .before .before .before .if1 .left) in
+    let o : c .before .before .before .before .before .before .before .before .hash-at .result ≡ p .hash .now = c .before .before .before .before .before .before .before .before .hash-at .ensures ∙ own-hash (p .hash .now) (c .before .before .before .before .before .before .before .before .before .before .before .before .before .if2 .left) in
     let z : sameHash (p .hash .now) zeroHash ≡ false = ap (λ (x : List ℕ). sameHash x zeroHash) (sym o) ∙ sym (c .before .before .before .before .before .before .before .same-hash .ensures) ∙ c .before .before .before .before .before .before .if5 .left in
     let k : isSome (find (p .hashes .now) (p .sequences .now) (p .sequence .0) (p .hash .now)) ≡ false =
     ap (λ (x : List ℕ). isSome (find (p .hashes .now) (p .sequences .now) (p .sequence .0) x)) (sym o) ∙ sym (c .before .before .before .before .before .is-known .ensures) ∙ c .before .before .before .before .if6 .left in
     let f = sym (c .before .before .before .next-free-index .ensures) ∙ ap slotFound (c .before .slot .given .1) in
-    λ a t. rw (e, eq-eqb _ _ (c .before .before .before .before .before .before .before .before .before .before .before .before .if2 .left), eq-eqb _ _ (c .before .before .before .before .before .before .before .before .before .before .before .if3 .left), ne-eqb _ _ (c .before .before .before .before .before .before .before .before .before .if4 .left), z, k, f, admit)
+    λ a t. rw (e, eq-eqb _ _ (c .before .before .before .before .before .before .before .before .before .before .before .before .before .if2 .left), eq-eqb _ _ (c .before .before .before .before .before .before .before .before .before .before .before .before .if3 .left), ne-eqb _ _ (c .before .before .before .before .before .before .before .before .before .if4 .left), z, k, f, admit)
 
 pub reply-spec : {M : Type 1} → statement M
 reply-spec =

@@ -1,14 +1,48 @@
 -- The block, the heads, the tails.
-use mathlib.Core.Path.{_≡_, _∙_}
-use Rattle.rules.specs.Hashes.{hashAt}
-use Rattle.rules.specs.BlockTable.{findParent}
-use Rattle.rules.specs.Answers.{slotFound}
-use Rattle.rules.specs.Calls.{slotOrNone}
+use mathlib.Core.Path.{_≡_, sym, ap, _∙_}
+use mathlib.Core.List.{List}
+use mathlib.Core.Option.{Option}
+use Prim.Native.Nat.{ℕ}
+use native.Mathlib.Omega.{arith}
+use borrow.Author.Needs.{needs}
+use lib.ListN.{length}
+use Rattle.rules.specs.Hashes.{hashLength}
+use Rattle.rules.specs.Records.{Blocks, Tables}
+use Rattle.rules.specs.BlockTable.{findParent, insertAt}
+use Rattle.rules.specs.Admission.{admitted as admittedRule, refreshTails}
+use Rattle.rules.specs.Calls.{State, newBlock, slotOrNone, admitAt}
 use Rattle.admit_step.proofs.admit_at.Statement.{statement}
 use Rattle.admit_step.proofs.admit_at.Tie as tie
 
-hash-at-requires : tie.Need-hash-at-requires
-hash-at-requires c κs = tt
+abbrev the : (A : Type 0) → A → A
+the A a = a
+
+-- each call's place, from the call after it
+abbrev admitted : tie.After-refresh-tails → tie.After-on-block-admitted
+admitted c = search
+
+abbrev inserted : tie.After-on-block-admitted → tie.After-insert-at
+inserted c = search
+
+abbrev below : tie.After-insert-at → tie.After-slot-or-none
+below c = search
+
+abbrev start : tie.After-slot-or-none → tie.Start
+start c = search
+
+hash-whole : (s : tie.Start) → length (s .args .t16) ≡ hashLength
+hash-whole s = search needs
+
+-- the steps as one, of any tables
+steps : (s : State) (b : Blocks) (u v : Tables) (i sequence under : ℕ) (own previous : List ℕ) (parent : Option ℕ) (arrival : ℕ)
+    → parent ≡ findParent (s .tables .blocks .hashes) (s .tables .blocks .sequences) previous sequence
+    → under ≡ slotOrNone parent
+    → b ≡ insertAt (s .tables .blocks) i (newBlock sequence own under)
+    → u ≡ admittedRule (record { blocks = b; heads = s .tables .heads }) i parent previous arrival (s .activeHead)
+    → v ≡ refreshTails u
+    → v ≡ admitAt s i sequence own previous arrival
+unfolding admitAt
+steps s b u v i sequence under own previous parent arrival e f g h k = k ∙ ap refreshTails (h ∙ rw (g, f, e))
 
 find-parent-requires : tie.Need-find-parent-requires
 find-parent-requires c κs = tt
@@ -19,6 +53,9 @@ slot-or-none-requires c κs = tt
 insert-at-requires : tie.Need-insert-at-requires
 insert-at-requires c κs = tt
 
+slice-aggregate-on-block-admitted : tie.Need-slice-aggregate-on-block-admitted
+slice-aggregate-on-block-admitted c = let i = the tie.After-insert-at (search) in sym (hash-whole (start (below i)))
+
 on-block-admitted-requires : tie.Need-on-block-admitted-requires
 on-block-admitted-requires c κs = tt
 
@@ -26,53 +63,76 @@ refresh-tails-requires : tie.Need-refresh-tails-requires
 refresh-tails-requires c κs = tt
 
 same-length : tie.Need-same-length
-same-length c = c .before .before .before .before .before .before .before .before .before .before .before .before .before .before .before .before .before .before .before .before .before .before .before .before .before .before .before .before .before .before .before .before .before .before .before .before .before .before .before .before .before .before .on-block-admitted .kept .0 ∙ c .before .before .before .before .before .before .before .before .before .before .before .before .before .before .before .before .before .before .before .before .before .before .before .before .before .before .before .before .before .before .before .before .before .before .before .before .before .before .before .before .before .before .before .before .before .before .before .before .before .before .before .before .before .before .before .before .before .before .before .before .before .before .before .before .insert-at .kept .0
+same-length c =
+    let t = the tie.After-refresh-tails (search) in
+    omega (arith, t .refresh-tails .kept, admitted t .on-block-admitted .kept, inserted (admitted t) .insert-at .kept)
 
 same-length-2 : tie.Need-same-length-2
-same-length-2 c = c .before .before .before .before .before .before .before .before .before .before .before .before .before .before .before .before .before .before .before .before .before .before .before .before .before .before .before .before .before .before .before .before .before .before .before .before .before .before .before .before .before .before .on-block-admitted .kept .1 .0 ∙ c .before .before .before .before .before .before .before .before .before .before .before .before .before .before .before .before .before .before .before .before .before .before .before .before .before .before .before .before .before .before .before .before .before .before .before .before .before .before .before .before .before .before .before .before .before .before .before .before .before .before .before .before .before .before .before .before .before .before .before .before .before .before .before .before .insert-at .kept .1 .0
+same-length-2 c =
+    let t = the tie.After-refresh-tails (search) in
+    omega (arith, t .refresh-tails .kept, admitted t .on-block-admitted .kept, inserted (admitted t) .insert-at .kept)
 
 same-length-3 : tie.Need-same-length-3
-same-length-3 c = c .before .before .before .before .before .before .before .before .before .before .before .before .before .before .before .before .before .before .before .before .before .before .before .before .before .before .before .before .before .before .before .before .before .before .before .before .before .before .before .before .before .before .on-block-admitted .kept .1 .1 .0 ∙ c .before .before .before .before .before .before .before .before .before .before .before .before .before .before .before .before .before .before .before .before .before .before .before .before .before .before .before .before .before .before .before .before .before .before .before .before .before .before .before .before .before .before .before .before .before .before .before .before .before .before .before .before .before .before .before .before .before .before .before .before .before .before .before .before .insert-at .kept .1 .1 .0
+same-length-3 c =
+    let t = the tie.After-refresh-tails (search) in
+    omega (arith, t .refresh-tails .kept, admitted t .on-block-admitted .kept, inserted (admitted t) .insert-at .kept)
 
 same-length-4 : tie.Need-same-length-4
-same-length-4 c = c .before .before .before .before .before .before .before .before .before .before .before .before .before .before .before .before .before .before .before .before .before .before .before .before .before .before .before .before .before .before .before .before .before .before .before .before .before .before .before .before .before .before .on-block-admitted .kept .1 .1 .1 .0 ∙ c .before .before .before .before .before .before .before .before .before .before .before .before .before .before .before .before .before .before .before .before .before .before .before .before .before .before .before .before .before .before .before .before .before .before .before .before .before .before .before .before .before .before .before .before .before .before .before .before .before .before .before .before .before .before .before .before .before .before .before .before .before .before .before .before .insert-at .kept .1 .1 .1 .0
+same-length-4 c =
+    let t = the tie.After-refresh-tails (search) in
+    omega (arith, t .refresh-tails .kept, admitted t .on-block-admitted .kept, inserted (admitted t) .insert-at .kept)
 
 same-length-5 : tie.Need-same-length-5
-same-length-5 c = c .before .before .before .before .before .before .before .before .before .before .before .before .before .before .before .before .before .before .before .before .before .before .before .before .before .before .before .before .before .before .before .before .before .before .before .before .before .before .before .before .before .before .on-block-admitted .kept .1 .1 .1 .1 .0 ∙ c .before .before .before .before .before .before .before .before .before .before .before .before .before .before .before .before .before .before .before .before .before .before .before .before .before .before .before .before .before .before .before .before .before .before .before .before .before .before .before .before .before .before .before .before .before .before .before .before .before .before .before .before .before .before .before .before .before .before .before .before .before .before .before .before .insert-at .kept .1 .1 .1 .1 .0
+same-length-5 c =
+    let t = the tie.After-refresh-tails (search) in
+    omega (arith, t .refresh-tails .kept, admitted t .on-block-admitted .kept, inserted (admitted t) .insert-at .kept)
 
 same-length-6 : tie.Need-same-length-6
-same-length-6 c = c .before .before .before .before .before .before .before .before .before .before .before .before .before .before .before .before .before .before .before .before .before .before .before .before .before .before .before .before .before .before .before .before .before .before .before .before .before .before .before .before .before .before .on-block-admitted .kept .1 .1 .1 .1 .1 .0
+same-length-6 c =
+    let t = the tie.After-refresh-tails (search) in
+    omega (arith, t .refresh-tails .kept, admitted t .on-block-admitted .kept, inserted (admitted t) .insert-at .kept)
 
 same-length-7 : tie.Need-same-length-7
-same-length-7 c = c .before .before .before .before .before .before .before .before .refresh-tails .kept .1 .1 .1 .1 .1 .1 .0 ∙ c .before .before .before .before .before .before .before .before .before .before .before .before .before .before .before .before .before .before .before .before .before .before .before .before .before .before .before .before .before .before .before .before .before .before .before .before .before .before .before .before .before .before .on-block-admitted .kept .1 .1 .1 .1 .1 .1 .0
+same-length-7 c =
+    let t = the tie.After-refresh-tails (search) in
+    omega (arith, t .refresh-tails .kept, admitted t .on-block-admitted .kept, inserted (admitted t) .insert-at .kept)
 
 same-length-8 : tie.Need-same-length-8
-same-length-8 c = c .before .before .before .before .before .before .before .before .refresh-tails .kept .1 .1 .1 .1 .1 .1 .1 .0 ∙ c .before .before .before .before .before .before .before .before .before .before .before .before .before .before .before .before .before .before .before .before .before .before .before .before .before .before .before .before .before .before .before .before .before .before .before .before .before .before .before .before .before .before .on-block-admitted .kept .1 .1 .1 .1 .1 .1 .1 .0
+same-length-8 c =
+    let t = the tie.After-refresh-tails (search) in
+    omega (arith, t .refresh-tails .kept, admitted t .on-block-admitted .kept, inserted (admitted t) .insert-at .kept)
 
 same-length-9 : tie.Need-same-length-9
-same-length-9 c = c .before .before .before .before .before .before .before .before .refresh-tails .kept .1 .1 .1 .1 .1 .1 .1 .1 .0 ∙ c .before .before .before .before .before .before .before .before .before .before .before .before .before .before .before .before .before .before .before .before .before .before .before .before .before .before .before .before .before .before .before .before .before .before .before .before .before .before .before .before .before .before .on-block-admitted .kept .1 .1 .1 .1 .1 .1 .1 .1 .0
+same-length-9 c =
+    let t = the tie.After-refresh-tails (search) in
+    omega (arith, t .refresh-tails .kept, admitted t .on-block-admitted .kept, inserted (admitted t) .insert-at .kept)
 
 same-length-10 : tie.Need-same-length-10
-same-length-10 c = c .before .before .before .before .before .before .before .before .before .before .before .before .before .before .before .before .before .before .before .before .before .before .before .before .before .before .before .before .before .before .before .before .before .before .before .before .before .before .before .before .before .before .on-block-admitted .kept .1 .1 .1 .1 .1 .1 .1 .1 .1 .0
+same-length-10 c =
+    let t = the tie.After-refresh-tails (search) in
+    omega (arith, t .refresh-tails .kept, admitted t .on-block-admitted .kept, inserted (admitted t) .insert-at .kept)
 
 same-length-11 : tie.Need-same-length-11
-same-length-11 c = c .before .before .before .before .before .before .before .before .refresh-tails .kept .1 .1 .1 .1 .1 .1 .1 .1 .1 .1 .0 ∙ c .before .before .before .before .before .before .before .before .before .before .before .before .before .before .before .before .before .before .before .before .before .before .before .before .before .before .before .before .before .before .before .before .before .before .before .before .before .before .before .before .before .before .on-block-admitted .kept .1 .1 .1 .1 .1 .1 .1 .1 .1 .1 .0
+same-length-11 c =
+    let t = the tie.After-refresh-tails (search) in
+    omega (arith, t .refresh-tails .kept, admitted t .on-block-admitted .kept, inserted (admitted t) .insert-at .kept)
 
 returns : tie.Need-returns
 returns c =
-    let p = c .before .before .before .before .before .before .before .before .before .before .before .before .before .before .before .before .before .before .before .before .before .before .before .before .before .before .before .before .before .before .before .before .before .before .before .before .before .before .before .before .before .before .before .before .before .before .before .before .before .before .before .before .before .before .before .before .before .before .before .before .before .before .before .before .before .before .before .before .before .before .before .before .before .before .before .before .before .before .before .before .before .before .before .before .before .before .before .args in
-    let f : slotFound (c .before .before .before .before .before .before .before .before .before .before .before .before .before .before .before .before .before .before .before .before .before .before .before .before .before .before .before .before .before .before .before .before .before .before .before .before .before .before .before .before .before .before .before .before .before .before .before .before .before .before .before .before .before .before .before .before .before .before .before .before .before .before .before .before .before .before .before .before .before .before .before .find-parent .result) ≡ findParent (p .hashes .now) (p .sequences .now) (hashAt (p .previous .now) 0) (p .sequence .0) = c .before .before .before .before .before .before .before .before .before .before .before .before .before .before .before .before .before .before .before .before .before .before .before .before .before .before .before .before .before .before .before .before .before .before .before .before .before .before .before .before .before .before .before .before .before .before .before .before .before .before .before .before .before .before .before .before .before .before .before .before .before .before .before .before .before .before .before .before .before .before .before .find-parent .ensures ∙ rw (c .before .before .before .before .before .before .before .before .before .before .before .before .before .before .before .before .before .before .before .before .before .before .before .before .before .before .before .before .before .before .before .before .before .before .before .before .before .before .before .before .before .before .before .before .before .before .before .before .before .before .before .before .before .before .before .before .before .before .before .before .before .before .before .before .before .before .before .before .before .before .before .before .hash-at .ensures) in
-    let b : c .before .before .before .before .before .before .before .before .before .before .before .before .before .before .before .before .before .before .before .before .before .before .before .before .before .before .before .before .before .before .before .before .before .before .before .before .before .before .before .before .before .before .before .before .before .before .before .before .before .before .before .before .before .before .before .before .before .before .before .before .before .before .before .before .before .before .before .before .before .before .slot-or-none .result .0 ≡ slotOrNone (findParent (p .hashes .now) (p .sequences .now) (hashAt (p .previous .now) 0) (p .sequence .0)) = c .before .before .before .before .before .before .before .before .before .before .before .before .before .before .before .before .before .before .before .before .before .before .before .before .before .before .before .before .before .before .before .before .before .before .before .before .before .before .before .before .before .before .before .before .before .before .before .before .before .before .before .before .before .before .before .before .before .before .before .before .before .before .before .before .before .before .before .before .before .before .slot-or-none .ensures ∙ rw f in
-    c .before .before .before .before .before .before .before .before .refresh-tails .ensures ∙ rw (c .before .before .before .before .before .before .before .before .before .before .before .before .before .before .before .before .before .before .before .before .before .before .before .before .before .before .before .before .before .before .before .before .before .before .before .before .before .before .before .before .before .before .on-block-admitted .ensures, c .before .before .before .before .before .before .before .before .before .before .before .before .before .before .before .before .before .before .before .before .before .before .before .before .before .before .before .before .before .before .before .before .before .before .before .before .before .before .before .before .before .before .before .before .before .before .before .before .before .before .before .before .before .before .before .before .before .before .before .before .before .before .before .before .insert-at .ensures, f, ← b)
+    let t = the tie.After-refresh-tails (search) in
+    let a = admitted t in
+    let i = inserted a in
+    let s = below i in
+    steps _ _ _ _ _ _ _ _ _ _ _ (s .before .find-parent .ensures) (s .slot-or-none .ensures) (i .insert-at .ensures) (a .on-block-admitted .ensures) (t .refresh-tails .ensures)
 
 pub admit-at-spec : {M : Type 1} → statement M
 admit-at-spec =
     tie.close
     (tie.spec
-    hash-at-requires
     find-parent-requires
     slot-or-none-requires
     insert-at-requires
+    slice-aggregate-on-block-admitted
     on-block-admitted-requires
     refresh-tails-requires
     same-length

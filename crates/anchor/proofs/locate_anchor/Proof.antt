@@ -46,8 +46,8 @@ shared-slice-read-if5 c = omega arith
 returns-2 : tie.Need-returns-2 Inv-loop μ-loop
 unfolding locateAnchor
 returns-2 c =
-    let n = c .before .before .before .before .before .before .before .before .slots in
-    let l = c .before .before .before .before .loop in
+    let n = c .before .before .before .before .before .before .before .before .before .slots in
+    let l = c .before .before .before .before .before .loop in
     rw (← n .ensures) (sym (l .inv .1 ∙ anchor-empty _ _ _ (n .result - l .visits) (l .last) (l .current) (omega arith) (empty-in-range _ (l .current) (omega arith) (c .if5 .taken))))
 
 shared-slice-read-if6 : tie.Need-shared-slice-read-if6 Inv-loop μ-loop
@@ -56,8 +56,8 @@ shared-slice-read-if6 c = omega arith
 returns-3 : tie.Need-returns-3 Inv-loop μ-loop
 unfolding locateAnchor
 returns-3 c =
-    let n = c .before .before .before .before .before .before .before .before .before .before .slots in
-    let l = c .before .before .before .before .before .before .loop in
+    let n = c .before .before .before .before .before .before .before .before .before .before .before .slots in
+    let l = c .before .before .before .before .before .before .before .loop in
     rw (← n .ensures) (sym (l .inv .1 ∙ anchor-active _ _ _ (n .result - l .visits) (l .last) (l .current) (omega arith) (occupied-in-range _ (l .current) (omega arith) (c .before .before .if5 .left)) (bit-set _ (l .current) (c .if6 .taken))))
 
 mul-current : tie.Need-mul-current Inv-loop μ-loop
@@ -74,12 +74,12 @@ loop-less c = omega arith
 
 loop-again : tie.Need-loop-again Inv-loop μ-loop
 loop-again c =
-    let n = c .before .before .before .before .before .before .before .before .before .before .before .slots in
-    let l = c .before .before .before .before .before .before .before .loop in
+    let n = c .before .before .before .before .before .before .before .before .before .before .before .before .slots in
+    let l = c .before .before .before .before .before .before .before .before .loop in
     let k : ℕ = n .result - (l .visits + 1) in
     let e : n .result - l .visits ≡ suc k = omega arith in (
       omega arith,
-      l .inv .1 ∙ rw (e, getD-any (c .before .before .before .before .before .before .before .before .before .before .before .before .before .before .before .args .parents .now) (l .current) 0 NONE (omega arith)) (anchor-goes _ _ _ k (l .last) (l .current) (omega arith) (occupied-in-range _ (l .current) (omega arith) (c .before .before .before .if5 .left)) (bit-clear _ (l .current) (c .before .if6 .left))),
+      l .inv .1 ∙ rw (e, getD-any (c .before .before .before .before .before .before .before .before .before .before .before .before .before .before .before .before .args .parents .now) (l .current) 0 NONE (omega arith)) (anchor-goes _ _ _ k (l .last) (l .current) (omega arith) (occupied-in-range _ (l .current) (omega arith) (c .before .before .before .if5 .left)) (bit-clear _ (l .current) (c .before .if6 .left))),
     )
 
 returns-4 : tie.Need-returns-4 Inv-loop μ-loop

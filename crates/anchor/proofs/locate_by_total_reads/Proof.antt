@@ -45,8 +45,8 @@ word-at-requires c κs = tt
 returns-3 : tie.Need-returns-3 Inv-loop μ-loop
 unfolding locateAnchor
 returns-3 c =
-    rw (← c .before .before .before .before .before .before .before .before .slots .ensures) (sym (c .before .before .before .before .before .before .before .loop .inv .1 ∙ anchor-root _ _ _ (c .before .before .before .before .before .before .before .before .slots .result - c .before .before .before .before .before .before .before .loop .visits) (c .before .before .before .before .before .before .before .loop .last) (c .before .before .before .before .before .before .before .loop .current) (omega arith)
-    (sym (c .before .before .before .before .before .is-occupied .ensures) ∙ not-false (c .before .before .before .before .before .is-occupied .result) (c .before .before .before .before .if1 .left)) (sym (c .before .before .before .is-on-active-chain .ensures) ∙ c .before .before .if2 .left) (sym (c .before .word-at .ensures) ∙ c .if3 .taken)))
+    rw (← c .before .before .before .before .before .before .before .before .before .slots .ensures) (sym (c .before .before .before .before .before .before .before .before .loop .inv .1 ∙ anchor-root _ _ _ (c .before .before .before .before .before .before .before .before .before .slots .result - c .before .before .before .before .before .before .before .before .loop .visits) (c .before .before .before .before .before .before .before .before .loop .last) (c .before .before .before .before .before .before .before .before .loop .current) (omega arith)
+    (sym (c .before .before .before .before .before .before .is-occupied .ensures) ∙ not-false (c .before .before .before .before .before .before .is-occupied .result) (c .before .before .before .before .before .if1 .left)) (sym (c .before .before .before .before .is-on-active-chain .ensures) ∙ c .before .before .before .if2 .left) (sym (c .before .before .word-at .ensures) ∙ c .if3 .taken)))
 
 add-visits : tie.Need-add-visits Inv-loop μ-loop
 add-visits c = omega arith
@@ -56,11 +56,11 @@ loop-less c = omega arith
 
 loop-again : tie.Need-loop-again Inv-loop μ-loop
 loop-again c =
-    let k : ℕ = c .before .before .before .before .before .before .before .before .slots .result - (c .before .before .before .before .before .before .before .loop .visits + 1) in
-    let e : c .before .before .before .before .before .before .before .before .slots .result - c .before .before .before .before .before .before .before .loop .visits ≡ suc k = omega arith in (
+    let k : ℕ = c .before .before .before .before .before .before .before .before .before .slots .result - (c .before .before .before .before .before .before .before .before .loop .visits + 1) in
+    let e : c .before .before .before .before .before .before .before .before .before .slots .result - c .before .before .before .before .before .before .before .before .loop .visits ≡ suc k = omega arith in (
       omega arith,
-      c .before .before .before .before .before .before .before .loop .inv .1 ∙ rw (e, c .before .word-at .ensures) (anchor-up _ _ _ k (c .before .before .before .before .before .before .before .loop .last) (c .before .before .before .before .before .before .before .loop .current)
-          (sym (c .before .before .before .before .before .is-occupied .ensures) ∙ not-false (c .before .before .before .before .before .is-occupied .result) (c .before .before .before .before .if1 .left)) (sym (c .before .before .before .is-on-active-chain .ensures) ∙ c .before .before .if2 .left) (λ q. c .if3 .left (c .before .word-at .ensures ∙ q))),
+      c .before .before .before .before .before .before .before .before .loop .inv .1 ∙ rw (e, c .before .before .word-at .ensures) (anchor-up _ _ _ k (c .before .before .before .before .before .before .before .before .loop .last) (c .before .before .before .before .before .before .before .before .loop .current)
+          (sym (c .before .before .before .before .before .before .is-occupied .ensures) ∙ not-false (c .before .before .before .before .before .before .is-occupied .result) (c .before .before .before .before .before .if1 .left)) (sym (c .before .before .before .before .is-on-active-chain .ensures) ∙ c .before .before .before .if2 .left) (λ q. c .if3 .left (c .before .before .word-at .ensures ∙ q))),
     )
 
 returns-4 : tie.Need-returns-4 Inv-loop μ-loop

@@ -1,11 +1,30 @@
--- The fields one by one.
-use mathlib.Core.Path.{_≡_, sym, _∙_}
+-- By whether a block is there; its fields one by one.
+use mathlib.Core.Path.{_≡_, sym, ap, _∙_}
 use mathlib.Core.Bool.{true, false}
 use borrow.Author.Tests.{not-true, not-false}
 use Rattle.rules.specs.Records.{occupied, blockAt}
-use Rattle.rules.specs.BlockTable.{get}
+use Rattle.rules.specs.declared.Block.{Block}
+use Rattle.block_reading.proofs.Got.{got-nothing, got-there}
 use Rattle.block_reading.proofs.get.Statement.{statement}
 use Rattle.block_reading.proofs.get.Tie as tie
+
+abbrev the : (A : Type 0) → A → A
+the A a = a
+
+abbrev tested : tie.After-empty → tie.Then1
+tested c = search
+
+abbrev left : tie.After-byte-at2 → tie.Else1
+left c = search
+
+abbrev start : tie.After-is-occupied → tie.Start
+start c = search
+
+free : (c : tie.Then1) → occupied (start (c .before) .args .sequences .now) (start (c .before) .args .slot .0) ≡ false
+free c = sym (c .before .is-occupied .ensures) ∙ not-true (c .before .is-occupied .result) (c .if1 .taken)
+
+taken : (c : tie.Else1) → occupied (start (c .before) .args .sequences .now) (start (c .before) .args .slot .0) ≡ true
+taken c = sym (c .before .is-occupied .ensures) ∙ not-false (c .before .is-occupied .result) (c .if1 .left)
 
 is-occupied-requires : tie.Need-is-occupied-requires
 is-occupied-requires c κs = tt
@@ -14,10 +33,9 @@ empty-requires : tie.Need-empty-requires
 empty-requires c κs = tt
 
 returns : tie.Need-returns
-unfolding get
 returns c =
-    let e : occupied (c .before .before .before .before .before .before .before .before .args .sequences .now) (c .before .before .before .before .before .before .before .before .args .slot .0) ≡ false = sym (c .before .before .is-occupied .ensures) ∙ not-true (c .before .before .is-occupied .result) (c .before .if1 .taken) in
-    rw e
+    let w = the tie.After-empty (search) in
+    ap (λ (b : Block). record { there = false; block = b }) (w .empty .ensures) ∙ sym (got-nothing _ _ (free (tested w)))
 
 hash-at-requires : tie.Need-hash-at-requires
 hash-at-requires c κs = tt
@@ -35,10 +53,10 @@ byte-at-requires-2 : tie.Need-byte-at-requires-2
 byte-at-requires-2 c κs = tt
 
 returns-2 : tie.Need-returns-2
-unfolding get blockAt
+unfolding blockAt
 returns-2 c =
-    let e : occupied (c .before .before .before .before .before .before .before .before .before .before .before .before .args .sequences .now) (c .before .before .before .before .before .before .before .before .before .before .before .before .args .slot .0) ≡ true = sym (c .before .before .before .before .before .before .is-occupied .ensures) ∙ not-false (c .before .before .before .before .before .before .is-occupied .result) (c .before .before .before .before .before .if1 .left) in
-    rw (e, c .before .before .before .before .hash-at .ensures, c .before .before .before .word-at .ensures, c .before .before .word-at2 .ensures, c .before .byte-at .ensures, c .byte-at2 .ensures)
+    rw (c .before .before .before .before .hash-at .ensures, c .before .before .before .word-at .ensures, c .before .before .word-at2 .ensures, c .before .byte-at .ensures, c .byte-at2 .ensures)
+    (sym (got-there _ _ (taken (left c))))
 
 pub get-spec : {M : Type 1} → statement M
 get-spec =

@@ -8,7 +8,7 @@ word-at-requires c κs = tt
 
 returns : tie.Need-returns
 unfolding occupied
-returns c = rw (c .word-at .ensures)
+returns c = rw (c .before .word-at .ensures)
 
 pub is-occupied-spec : {M : Type 1} → statement M
 is-occupied-spec = tie.close (tie.spec word-at-requires returns)

@@ -10,7 +10,7 @@ returns-2 : tie.Need-returns-2
 returns-2 c = rw (ne-eqb _ _ (c .before .before .before .if1 .left), eq-eqb _ _ (c .if2 .taken))
 
 returns-3 : tie.Need-returns-3
-returns-3 c = rw (ne-eqb _ _ (c .before .before .before .before .if1 .left), ne-eqb _ _ (c .before .if2 .left))
+returns-3 c = rw (ne-eqb _ _ (c .before .before .before .before .before .if1 .left), ne-eqb _ _ (c .before .before .if2 .left))
 
 pub may-go-spec : {M : Type 1} → statement M
 may-go-spec = tie.close (tie.spec returns returns-2 returns-3)

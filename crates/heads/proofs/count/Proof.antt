@@ -4,7 +4,7 @@ use Prim.Native.Nat.{_≤_, _-_}
 use mathlib.Core.Path.{_≡_, sym, _∙_}
 use mathlib.Core.Logic.{⊎-elim}
 use Rattle.rules.specs.Common.{countBelow}
-use Rattle.rules.specs.Records.{used}
+use Rattle.rules.specs.Records.{used, headCount}
 use Rattle.rules.proofs.Search.{count-none, count-passes, count-fails, count-few}
 use Rattle.heads.proofs.count.Statement.{statement}
 use Rattle.heads.proofs.count.Tie as tie
@@ -45,6 +45,7 @@ loop-again c =
     )
 
 returns : tie.Need-returns Inv-loop μ-loop
+unfolding headCount
 returns c =
     let e : c .before .loop .k ≡ c .before .before .slots .result = omega arith in
     rw (← c .before .before .slots .ensures, ← e) (c .before .loop .inv .1)

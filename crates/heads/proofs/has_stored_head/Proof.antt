@@ -4,7 +4,7 @@ use Prim.Native.Nat.{_≤_, _-_}
 use mathlib.Core.Path.{_≡_, sym, _∙_}
 use mathlib.Core.Option.{none, some}
 use Rattle.rules.specs.Common.{lowest}
-use Rattle.rules.specs.Records.{stored, slotsOf}
+use Rattle.rules.specs.Records.{stored, slotsOf, hasStoredHead}
 use Rattle.rules.proofs.Search.{lowest-none, lowest-next, lowest-at}
 use Rattle.heads.proofs.has_stored_head.Statement.{statement}
 use Rattle.heads.proofs.has_stored_head.Tie as tie
@@ -25,6 +25,7 @@ is-stored-requires : tie.Need-is-stored-requires Inv-loop μ-loop
 is-stored-requires c κs = tt
 
 returns : tie.Need-returns Inv-loop μ-loop
+unfolding hasStoredHead
 returns c =
     let e : lowest (stored (c .before .before .before .before .before .before .before .args .tips .now) (c .before .before .before .before .before .before .before .args .connected .now)) (slotsOf (c .before .before .before .before .before .before .before .args .tips .now)) ≡ some (c .before .before .before .loop .k) =
     lowest-at _ (c .before .before .before .loop .k) _ (c .before .before .before .loop .inv .1) (sym (c .before .is-stored .ensures) ∙ c .if1 .taken) (omega (arith, c .before .before .before .before .slots .ensures)) in
@@ -40,6 +41,7 @@ loop-again : tie.Need-loop-again Inv-loop μ-loop
 loop-again c = (omega arith, lowest-next _ (c .before .before .before .loop .k) (c .before .before .before .loop .inv .1) (sym (c .before .is-stored .ensures) ∙ c .if1 .left))
 
 returns-2 : tie.Need-returns-2 Inv-loop μ-loop
+unfolding hasStoredHead
 returns-2 c =
     let e : c .before .loop .k ≡ c .before .before .slots .result = omega arith in
     rw (← c .before .before .slots .ensures, ← e, c .before .loop .inv .1)

@@ -8,7 +8,7 @@ word-at-requires c κs = tt
 
 returns : tie.Need-returns
 unfolding used
-returns c = rw (c .word-at .ensures)
+returns c = rw (c .before .word-at .ensures)
 
 pub is-used-spec : {M : Type 1} → statement M
 is-used-spec = tie.close (tie.spec word-at-requires returns)

@@ -42,10 +42,10 @@ word-at-requires-2 c κs = tt
 returns-4 : tie.Need-returns-4
 unfolding late
 returns-4 c =
-    let e : misses (headsOf (c .before .before .before .before .before .before .before .before .before .before .before .before .before .before .before .before .before .before .before .before .args .tips .now) (c .before .before .before .before .before .before .before .before .before .before .before .before .before .before .before .before .before .before .before .before .args .tails .now) (c .before .before .before .before .before .before .before .before .before .before .before .before .before .before .before .before .before .before .before .before .args .missing .now) (c .before .before .before .before .before .before .before .before .before .before .before .before .before .before .before .before .before .before .before .before .args .requested .now) (c .before .before .before .before .before .before .before .before .before .before .before .before .before .before .before .before .before .before .before .before .args .arrivals .now) (c .before .before .before .before .before .before .before .before .before .before .before .before .before .before .before .before .before .before .before .before .args .connected .now)) (c .before .before .before .before .before .before .before .before .before .before .before .before .before .before .before .before .before .before .before .before .args .hash) (c .before .before .before .before .before .before .before .before .before .before .before .before .before .before .before .before .before .before .before .before .args .head .0) ≡ true = sym (c .before .before .before .before .before .before .before .before .misses .ensures) ∙ not-false (c .before .before .before .before .before .before .before .before .misses .result) (c .before .before .before .before .before .before .before .if1 .left) in
-    let o : occupied (c .before .before .before .before .before .before .before .before .before .before .before .before .before .before .before .before .before .before .before .before .args .sequences .now) (c .before .before .before .before .before .before .word-at .result) ≡ true = sym (c .before .before .before .is-occupied .ensures) ∙ not-false (c .before .before .before .is-occupied .result) (c .before .before .if3 .left) in
-    let p : eqb (parentAt (c .before .before .before .before .before .before .before .before .before .before .before .before .before .before .before .before .before .before .before .before .args .parents .now) (c .before .before .before .before .before .before .word-at .result)) NONE ≡ false = ne-eqb _ _ (λ q. c .if4 .taken (c .before .word-at2 .ensures ∙ q)) in
-    rw (e, ← c .before .before .before .before .before .before .word-at .ensures, ne-eqb _ _ (c .before .before .before .before .if2 .left), o, p)
+    let e : misses (headsOf (c .before .before .before .before .before .before .before .before .before .before .before .before .before .before .before .before .before .before .before .before .before .args .tips .now) (c .before .before .before .before .before .before .before .before .before .before .before .before .before .before .before .before .before .before .before .before .before .args .tails .now) (c .before .before .before .before .before .before .before .before .before .before .before .before .before .before .before .before .before .before .before .before .before .args .missing .now) (c .before .before .before .before .before .before .before .before .before .before .before .before .before .before .before .before .before .before .before .before .before .args .requested .now) (c .before .before .before .before .before .before .before .before .before .before .before .before .before .before .before .before .before .before .before .before .before .args .arrivals .now) (c .before .before .before .before .before .before .before .before .before .before .before .before .before .before .before .before .before .before .before .before .before .args .connected .now)) (c .before .before .before .before .before .before .before .before .before .before .before .before .before .before .before .before .before .before .before .before .before .args .hash) (c .before .before .before .before .before .before .before .before .before .before .before .before .before .before .before .before .before .before .before .before .before .args .head .0) ≡ true = sym (c .before .before .before .before .before .before .before .before .before .misses .ensures) ∙ not-false (c .before .before .before .before .before .before .before .before .before .misses .result) (c .before .before .before .before .before .before .before .before .if1 .left) in
+    let o : occupied (c .before .before .before .before .before .before .before .before .before .before .before .before .before .before .before .before .before .before .before .before .before .args .sequences .now) (c .before .before .before .before .before .before .before .word-at .result) ≡ true = sym (c .before .before .before .before .is-occupied .ensures) ∙ not-false (c .before .before .before .before .is-occupied .result) (c .before .before .before .if3 .left) in
+    let p : eqb (parentAt (c .before .before .before .before .before .before .before .before .before .before .before .before .before .before .before .before .before .before .before .before .before .args .parents .now) (c .before .before .before .before .before .before .before .word-at .result)) NONE ≡ false = ne-eqb _ _ (λ q. c .if4 .taken (c .before .before .word-at2 .ensures ∙ q)) in
+    rw (e, ← c .before .before .before .before .before .before .before .word-at .ensures, ne-eqb _ _ (c .before .before .before .before .before .if2 .left), o, p)
 
 word-at-requires-3 : tie.Need-word-at-requires-3
 word-at-requires-3 c κs = tt
@@ -56,10 +56,10 @@ comes-after-requires c κs = tt
 returns-5 : tie.Need-returns-5
 unfolding late
 returns-5 c =
-    let e : misses (headsOf (c .before .before .before .before .before .before .before .before .before .before .before .before .before .before .before .before .before .before .before .before .before .before .args .tips .now) (c .before .before .before .before .before .before .before .before .before .before .before .before .before .before .before .before .before .before .before .before .before .before .args .tails .now) (c .before .before .before .before .before .before .before .before .before .before .before .before .before .before .before .before .before .before .before .before .before .before .args .missing .now) (c .before .before .before .before .before .before .before .before .before .before .before .before .before .before .before .before .before .before .before .before .before .before .args .requested .now) (c .before .before .before .before .before .before .before .before .before .before .before .before .before .before .before .before .before .before .before .before .before .before .args .arrivals .now) (c .before .before .before .before .before .before .before .before .before .before .before .before .before .before .before .before .before .before .before .before .before .before .args .connected .now)) (c .before .before .before .before .before .before .before .before .before .before .before .before .before .before .before .before .before .before .before .before .before .before .args .hash) (c .before .before .before .before .before .before .before .before .before .before .before .before .before .before .before .before .before .before .before .before .before .before .args .head .0) ≡ true = sym (c .before .before .before .before .before .before .before .before .before .before .misses .ensures) ∙ not-false (c .before .before .before .before .before .before .before .before .before .before .misses .result) (c .before .before .before .before .before .before .before .before .before .if1 .left) in
-    let o : occupied (c .before .before .before .before .before .before .before .before .before .before .before .before .before .before .before .before .before .before .before .before .before .before .args .sequences .now) (c .before .before .before .before .before .before .before .before .word-at .result) ≡ true = sym (c .before .before .before .before .before .is-occupied .ensures) ∙ not-false (c .before .before .before .before .before .is-occupied .result) (c .before .before .before .before .if3 .left) in
-    let p : eqb (parentAt (c .before .before .before .before .before .before .before .before .before .before .before .before .before .before .before .before .before .before .before .before .before .before .args .parents .now) (c .before .before .before .before .before .before .before .before .word-at .result)) NONE ≡ true = eq-eqb _ _ (sym (c .before .before .before .word-at2 .ensures) ∙ c .before .before .if4 .left) in
-    rw (e, ← c .before .before .before .before .before .before .before .before .word-at .ensures, ne-eqb _ _ (c .before .before .before .before .before .before .if2 .left), o, p, ← c .before .word-at3 .ensures) (c .comes-after .ensures)
+    let e : misses (headsOf (c .before .before .before .before .before .before .before .before .before .before .before .before .before .before .before .before .before .before .before .before .before .before .before .args .tips .now) (c .before .before .before .before .before .before .before .before .before .before .before .before .before .before .before .before .before .before .before .before .before .before .before .args .tails .now) (c .before .before .before .before .before .before .before .before .before .before .before .before .before .before .before .before .before .before .before .before .before .before .before .args .missing .now) (c .before .before .before .before .before .before .before .before .before .before .before .before .before .before .before .before .before .before .before .before .before .before .before .args .requested .now) (c .before .before .before .before .before .before .before .before .before .before .before .before .before .before .before .before .before .before .before .before .before .before .before .args .arrivals .now) (c .before .before .before .before .before .before .before .before .before .before .before .before .before .before .before .before .before .before .before .before .before .before .before .args .connected .now)) (c .before .before .before .before .before .before .before .before .before .before .before .before .before .before .before .before .before .before .before .before .before .before .before .args .hash) (c .before .before .before .before .before .before .before .before .before .before .before .before .before .before .before .before .before .before .before .before .before .before .before .args .head .0) ≡ true = sym (c .before .before .before .before .before .before .before .before .before .before .before .misses .ensures) ∙ not-false (c .before .before .before .before .before .before .before .before .before .before .before .misses .result) (c .before .before .before .before .before .before .before .before .before .before .if1 .left) in
+    let o : occupied (c .before .before .before .before .before .before .before .before .before .before .before .before .before .before .before .before .before .before .before .before .before .before .before .args .sequences .now) (c .before .before .before .before .before .before .before .before .before .word-at .result) ≡ true = sym (c .before .before .before .before .before .before .is-occupied .ensures) ∙ not-false (c .before .before .before .before .before .before .is-occupied .result) (c .before .before .before .before .before .if3 .left) in
+    let p : eqb (parentAt (c .before .before .before .before .before .before .before .before .before .before .before .before .before .before .before .before .before .before .before .before .before .before .before .args .parents .now) (c .before .before .before .before .before .before .before .before .before .word-at .result)) NONE ≡ true = eq-eqb _ _ (sym (c .before .before .before .before .word-at2 .ensures) ∙ c .before .before .if4 .left) in
+    rw (e, ← c .before .before .before .before .before .before .before .before .before .word-at .ensures, ne-eqb _ _ (c .before .before .before .before .before .before .before .if2 .left), o, p, ← c .before .word-at3 .ensures) (c .comes-after .ensures)
 
 pub is-late-spec : {M : Type 1} → statement M
 is-late-spec =

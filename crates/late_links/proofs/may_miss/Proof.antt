@@ -1,10 +1,6 @@
 -- The first byte, and stored.
-use mathlib.Core.Path.{_≡_, sym, _∙_}
-use mathlib.Core.Bool.{true, false}
-use borrow.Author.Tests.{eq-eqb, ne-eqb}
-use lib.Dec.{eqb}
-use lib.ListN.{getD}
-use Rattle.rules.specs.Hashes.{hashAt}
+use mathlib.Core.Path.{sym, _∙_}
+use Rattle.late_links.proofs.Missed.{another-byte, this-byte}
 use Rattle.late_links.proofs.may_miss.Statement.{statement}
 use Rattle.late_links.proofs.may_miss.Tie as tie
 
@@ -12,19 +8,13 @@ first-byte-requires : tie.Need-first-byte-requires
 first-byte-requires c κs = tt
 
 returns : tie.Need-returns
-returns c =
-    let a = c .before .before .before .before .before .args in
-    let e : eqb (getD (hashAt (a .missing .now) (a .head .0)) 0 0) (a .first) ≡ false = ne-eqb _ _ (λ q. c .if1 .taken (c .before .first-byte .ensures ∙ q)) in
-    rw e
+returns c = sym (another-byte _ _ _ _ _ (λ q. c .if1 .taken (c .before .first-byte .ensures ∙ q)))
 
 is-stored-requires : tie.Need-is-stored-requires
 is-stored-requires c κs = tt
 
 returns-2 : tie.Need-returns-2
-returns-2 c =
-    let a = c .before .before .before .before .before .before .args in
-    let e : eqb (getD (hashAt (a .missing .now) (a .head .0)) 0 0) (a .first) ≡ true = eq-eqb _ _ (sym (c .before .before .first-byte .ensures) ∙ c .before .if1 .left) in
-    rw e (c .is-stored .ensures)
+returns-2 c = c .is-stored .ensures ∙ sym (this-byte _ _ _ _ _ (sym (c .before .before .first-byte .ensures) ∙ c .before .if1 .left))
 
 pub may-miss-spec : {M : Type 1} → statement M
 may-miss-spec = tie.close (tie.spec first-byte-requires returns is-stored-requires returns-2)

@@ -5,8 +5,9 @@ use mathlib.Core.Path.{_≡_, refl, sym, ap, _∙_}
 use mathlib.Core.Logic.{⊎-elim}
 use mathlib.Core.Bool.{false}
 use mathlib.Core.List.{List}
-use lib.ListN.{length, getD}
+use lib.ListN.{length}
 use Rattle.rules.specs.Common.{inOrder}
+use Rattle.rules.specs.Hashes.{firstByte}
 use Rattle.rules.specs.Records.{Blocks, Heads, blocksOf, headsOf}
 use Rattle.rules.specs.Admission.{misses, recomputeMissed, recomputeMissing}
 use Rattle.rules.proofs.Search.{in-order-none, in-order-next}
@@ -54,7 +55,7 @@ loop-again c =
     let l = c .before .before .before .before .before .loop in
     let less = c .before .before .before .before .loop-test .taken in
     let h = c .before .before .before .before .before .before .before .before .hash-at in
-    let first : c .before .before .before .before .before .before .before .first-byte .result ≡ getD (h .result) 0 0 = c .before .before .before .before .before .before .before .first-byte .ensures ∙ ap (λ (l : List ℕ). getD l 0 0) (sym (h .ensures)) in
+    let first : c .before .before .before .before .before .before .before .first-byte .result ≡ firstByte (h .result) = c .before .before .before .before .before .before .before .first-byte .ensures ∙ ap firstByte (sym (h .ensures)) in
     ⊎-elim
     (λ w.
     let u = w .5 in (

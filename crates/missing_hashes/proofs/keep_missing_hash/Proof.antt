@@ -1,57 +1,61 @@
 -- By the tail, and by which head knows.
-use mathlib.Core.Path.{sym, _∙_}
-use Rattle.missing_hashes.proofs.Parts.{missing-arriving, missing-known, hash-put-back}
+use mathlib.Core.Path.{_≡_, sym, ap, _∙_}
+use mathlib.Core.Logic.{⊎-elim}
 use borrow.Author.Needs.{needs}
+use Rattle.rules.specs.Caches.{knowing, missingPart}
+use Rattle.rules.specs.declared.HeadSlot.{HeadSlot}
+use Rattle.missing_hashes.proofs.Parts.{part-arriving, missing-known, hash-put-back}
 use Rattle.missing_hashes.proofs.keep_missing_hash.Statement.{statement}
 use Rattle.missing_hashes.proofs.keep_missing_hash.Tie as tie
 
+abbrev start : tie.Joined1 → tie.Start
+start j = search
+
+abbrev joined : tie.After-slice-known2 → tie.Joined1
+joined c = search
+
+-- whichever head was asked, the part that is read is the rule's
+part-read : (j : tie.Joined1) →
+    let a = start j .args in
+    missingPart (a .previous .now) (a .missing .now) (a .tail .0) (a .arriving .0) (j .if1 .known .0)
+    ≡ missingPart (a .previous .now) (a .missing .now) (a .tail .0) (a .arriving .0) (knowing (a .tips .now) (a .tails .now) (a .connected .now) (a .tail .0) (a .head .0))
+part-read j =
+    ⊎-elim
+    (λ w. ap (missingPart _ _ _ _) (ap (λ (h : HeadSlot). h .0) (w .5) ∙ w .1 .ensures))
+    (λ w. part-arriving _ _ _ _ _ _ (w .0 .left))
+    (j .if1 .came)
+
+knowing-requires : tie.Need-knowing-requires
+knowing-requires c κs = search needs
+
+returns : tie.Need-returns
+returns c =
+    let t = c .before .before .before .before .if1 .taken in
+    rw (missing-known _ _ _ _ _ t, ← c .before .before .before .knowing .ensures, c .if2 .taken) (sym (hash-put-back _ _))
+
+missing-part-requires : tie.Need-missing-part-requires
+missing-part-requires c κs = search needs
+
 hash-at-requires : tie.Need-hash-at-requires
-hash-at-requires c κs = tt
+hash-at-requires c κs = search needs
 
 put-hash-requires : tie.Need-put-hash-requires
-put-hash-requires c κs = tt
+put-hash-requires c κs = search needs
 
 same-length : tie.Need-same-length
 same-length c = search needs
 
-returns : tie.Need-returns
-returns c =
-    let t = c .before .before .before .before .before .if1 .taken in
-    rw (missing-arriving _ _ _ _ _ t) (c .before .before .put-hash .ensures ∙ rw (c .before .before .before .hash-at .ensures))
-
-knowing-requires : tie.Need-knowing-requires
-knowing-requires c κs = tt
-
-hash-at-requires-2 : tie.Need-hash-at-requires-2
-hash-at-requires-2 c κs = tt
-
-put-hash-requires-2 : tie.Need-put-hash-requires-2
-put-hash-requires-2 c κs = tt
-
-same-length-2 : tie.Need-same-length-2
-same-length-2 c = search needs
-
 returns-2 : tie.Need-returns-2
-returns-2 c =
-    let t = c .before .before .before .before .before .before .before .before .before .before .if1 .left in
-    rw (missing-known _ _ _ _ _ t) (c .before .before .put-hash2 .ensures ∙ rw (c .before .before .before .before .hash-at2 .ensures, c .before .before .before .before .before .before .before .before .before .knowing .ensures))
-
-returns-3 : tie.Need-returns-3
-returns-3 c =
-    let t = c .before .before .before .before .if1 .left in
-    rw (missing-known _ _ _ _ _ t, ← c .before .before .before .knowing .ensures, c .if2 .left) (sym (hash-put-back _ _))
+returns-2 c = c .before .before .put-hash .ensures ∙ rw (c .before .before .before .before .hash-at .ensures, c .before .before .before .before .before .missing-part .ensures, part-read (joined c))
 
 pub keep-missing-hash-spec : {M : Type 1} → statement M
 keep-missing-hash-spec =
     tie.close
     (tie.spec
+    knowing-requires
+    returns
+    missing-part-requires
     hash-at-requires
     put-hash-requires
     same-length
-    returns
-    knowing-requires
-    hash-at-requires-2
-    put-hash-requires-2
-    same-length-2
-    returns-2
-    returns-3)
+    returns-2)

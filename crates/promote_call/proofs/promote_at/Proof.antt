@@ -83,7 +83,7 @@ returns-3 c =
     let p = c .before .before .before .before .before .before .before .before .before .before .before .before .before .before .before .before .before .before .before .before .before .before .args in
     let e : shaped (tablesOf (p .hashes .now) (p .parents .now) (p .sequences .now) (p .counts .now) (p .flags .now) (p .tips .now) (p .tails .now) (p .missing .now) (p .requested .now) (p .arrivals .now) (p .connected .now)) ≡ true = sym (c .before .before .before .before .before .is-shaped .ensures) ∙ not-false (c .before .before .before .before .before .is-shaped .result) (c .before .before .before .before .if1 .left) in
     let o : occupied (p .sequences .now) (p .slot .0) ≡ true = sym (c .before .before .before .is-occupied .ensures) ∙ not-false (c .before .before .before .is-occupied .result) (c .before .before .if2 .left) in
-    let n : (eqb (p .active) NONE || eqb (parentAt (p .parents .now) (p .slot .0)) (p .active)) ≡ false = sym (c .before .is-next .ensures) ∙ not-true (c .before .is-next .result) (c .if3 .taken) in
+    let n : (eqb (p .active .0) NONE || eqb (parentAt (p .parents .now) (p .slot .0)) (p .active .0)) ≡ false = sym (c .before .is-next .ensures) ∙ not-true (c .before .is-next .result) (c .if3 .taken) in
     (rw (e, o, n), (rw (e, o, n), rw (e, o, n)))
 
 raise-requires : tie.Need-raise-requires
@@ -110,7 +110,7 @@ returns-4 c =
     let p = c .before .before .before .before .before .before .before .before .before .before .before .before .before .before .before .before .before .before .before .before .before .before .before .before .before .before .before .before .before .before .before .before .before .before .before .before .before .before .args in
     let e : shaped (tablesOf (p .hashes .now) (p .parents .now) (p .sequences .now) (p .counts .now) (p .flags .now) (p .tips .now) (p .tails .now) (p .missing .now) (p .requested .now) (p .arrivals .now) (p .connected .now)) ≡ true = sym (c .before .before .before .before .before .before .before .before .before .before .before .before .before .before .before .before .before .before .before .before .before .is-shaped .ensures) ∙ not-false (c .before .before .before .before .before .before .before .before .before .before .before .before .before .before .before .before .before .before .before .before .before .is-shaped .result) (c .before .before .before .before .before .before .before .before .before .before .before .before .before .before .before .before .before .before .before .before .if1 .left) in
     let o : occupied (p .sequences .now) (p .slot .0) ≡ true = sym (c .before .before .before .before .before .before .before .before .before .before .before .before .before .before .before .before .before .before .before .is-occupied .ensures) ∙ not-false (c .before .before .before .before .before .before .before .before .before .before .before .before .before .before .before .before .before .before .before .is-occupied .result) (c .before .before .before .before .before .before .before .before .before .before .before .before .before .before .before .before .before .before .if2 .left) in
-    let n : (eqb (p .active) NONE || eqb (parentAt (p .parents .now) (p .slot .0)) (p .active)) ≡ true = sym (c .before .before .before .before .before .before .before .before .before .before .before .before .before .before .before .before .before .is-next .ensures) ∙ not-false (c .before .before .before .before .before .before .before .before .before .before .before .before .before .before .before .before .before .is-next .result) (c .before .before .before .before .before .before .before .before .before .before .before .before .before .before .before .before .if3 .left) in
+    let n : (eqb (p .active .0) NONE || eqb (parentAt (p .parents .now) (p .slot .0)) (p .active .0)) ≡ true = sym (c .before .before .before .before .before .before .before .before .before .before .before .before .before .before .before .before .before .is-next .ensures) ∙ not-false (c .before .before .before .before .before .before .before .before .before .before .before .before .before .before .before .before .before .is-next .result) (c .before .before .before .before .before .before .before .before .before .before .before .before .before .before .before .before .if3 .left) in
     (rw (e, o, n), (rw (e, o, n), rw (e, o, n) (c .before .before .before .before .before .before .before .before .before .before .raise .ensures)))
 
 pub promote-at-spec : {M : Type 1} → statement M

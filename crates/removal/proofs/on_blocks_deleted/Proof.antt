@@ -1,7 +1,7 @@
 -- The heads, then the counts.
 use mathlib.Core.Path.{ap, _∙_}
 use Rattle.rules.specs.Records.{Heads, tablesOf}
-use Rattle.rules.specs.Removal.{recounted, takesOver, heir, blocksDeleted}
+use Rattle.rules.specs.Removal.{recounted, blocksDeleted}
 use Rattle.removal.specs.After.{headsAfter}
 use Rattle.removal.proofs.on_blocks_deleted.Statement.{statement}
 use Rattle.removal.proofs.on_blocks_deleted.Tie as tie
@@ -37,7 +37,7 @@ same-length-7 : tie.Need-same-length-7
 same-length-7 c = c .before .before .before .before .before .before .before .before .before .before .before .before .before .before .before .before .update-heads .kept .1 .1 .1 .1 .1 .1 .1 .1 .0
 
 returns : tie.Need-returns
-unfolding blocksDeleted heir takesOver headsAfter
+unfolding blocksDeleted headsAfter
 returns c =
     let a = c .before .before .before .before .before .before .before .before .before .before .before .before .before .before .before .before .before .before .before .before .before .before .before .before .before .before .before .before .before .before .before .before .before .before .before .before .before .args in
     let t = tablesOf (a .hashes .now) (a .parents .now) (a .sequences .now) (a .counts .now) (a .flags .now) (a .tips .now) (a .tails .now) (a .missing .now) (a .requested .now) (a .arrivals .now) (a .connected .now) in

@@ -25,7 +25,7 @@ returns-3 : tie.Need-returns-3
 unfolding above
 returns-3 c =
     let b = c .before .before .before in
-    let o : occupied (b .before .before .before .before .before .before .args .sequences .now) (b .before .before .before .before .before .before .args .slot) ≡ false = sym (c .before .is-occupied .ensures) ∙ not-true (c .before .is-occupied .result) (c .if3 .taken) in
+    let o : occupied (b .before .before .before .before .before .before .before .args .sequences .now) (b .before .before .before .before .before .before .before .args .slot .0) ≡ false = sym (c .before .is-occupied .ensures) ∙ not-true (c .before .is-occupied .result) (c .if3 .taken) in
     rw (ne-eqb _ _ (b .before .if1 .left), eq-eqb _ _ (sym (b .byte-at .ensures) ∙ c .before .before .if2 .left), o)
 
 word-at-requires : tie.Need-word-at-requires
@@ -35,7 +35,7 @@ returns-4 : tie.Need-returns-4
 unfolding above
 returns-4 c =
     let b = c .before .before .before .before in
-    let o : occupied (b .before .before .before .before .before .before .args .sequences .now) (b .before .before .before .before .before .before .args .slot) ≡ true = sym (c .before .before .is-occupied .ensures) ∙ not-false (c .before .before .is-occupied .result) (c .before .if3 .left) in
+    let o : occupied (b .before .before .before .before .before .before .before .args .sequences .now) (b .before .before .before .before .before .before .before .args .slot .0) ≡ true = sym (c .before .before .is-occupied .ensures) ∙ not-false (c .before .before .is-occupied .result) (c .before .if3 .left) in
     rw (ne-eqb _ _ (b .before .if1 .left), eq-eqb _ _ (sym (b .byte-at .ensures) ∙ c .before .before .before .if2 .left), o) (c .word-at .ensures)
 
 pub above-spec : {M : Type 1} → statement M

@@ -16,9 +16,9 @@ abbrev Inv-loop : tie.InvT-loop
 Inv-loop parents sequences root known₀ byte n current₀ tries₀ known current tries =
     (tries ≤ n)
     × ((length known ≡ length known₀)
-    × (Right parents sequences (root .0) known₀ → current₀ < slotsOf sequences
-    → reaches parents sequences (root .0) (slotsOf sequences) current₀ ≡ eqb byte 1
-    → (current < NONE) × ((reaches parents sequences (root .0) (slotsOf sequences) current ≡ eqb byte 1) × Right parents sequences (root .0) known)))
+    × (Right parents sequences (root .0) known₀ → (current₀ .0) < slotsOf sequences
+    → reaches parents sequences (root .0) (slotsOf sequences) (current₀ .0) ≡ eqb byte 1
+    → (current .0 < NONE) × ((reaches parents sequences (root .0) (slotsOf sequences) (current .0) ≡ eqb byte 1) × Right parents sequences (root .0) known)))
 
 abbrev μ-loop : tie.MeasureT-loop
 μ-loop parents sequences root known₀ byte n current₀ tries₀ known current tries = n - tries
@@ -41,10 +41,10 @@ same-length c = search needs
 
 returns : tie.Need-returns Inv-loop μ-loop
 returns c r h e =
-    let l = c .before .before .before .before .before .before .before .before .loop in
+    let l = c .before .before .before .before .before .before .before .before .before .before .loop in
     let w = l .inv .1 .1 r h e in
-    let p = c .before .before .before .put-byte in
-    rw (p .ensures) (remembered _ _ _ (l .known) (l .current) _ (w .1 .1) (w .1 .0))
+    let p = c .before .before .before .before .before .put-byte in
+    rw (p .ensures) (remembered _ _ _ (l .known) (l .current .0) _ (w .1 .1) (w .1 .0))
 
 add-tries : tie.Need-add-tries Inv-loop μ-loop
 add-tries c = omega arith
@@ -54,11 +54,11 @@ loop-less c = omega arith
 
 loop-again : tie.Need-loop-again Inv-loop μ-loop
 loop-again c =
-    let a = c .before .before .before .before .before .before .before .before .before .before .before .before .before .args in
-    let l = c .before .before .before .before .before .before .before .before .loop in
-    let up = c .before .before .before .before .before .above .ensures in
-    let p = c .before .before .before .put-byte in
-    let small = small-parents (a .parents .now) (λ i. omega (arith, c .before .before .before .before .before .before .before .before .before .before .before .before .shared-slice-known .given i)) in (
+    let a = c .before .before .before .before .before .before .before .before .before .before .before .before .before .before .before .args in
+    let l = c .before .before .before .before .before .before .before .before .before .before .loop in
+    let up = c .before .before .before .before .before .before .before .above .ensures in
+    let p = c .before .before .before .before .before .put-byte in
+    let small = small-parents (a .parents .now) (λ i. omega (arith, c .before .before .before .before .before .before .before .before .before .before .before .before .before .before .shared-slice-known .given i)) in (
       omega arith,
       (
         p .kept .0 ∙ l .inv .1 .0,
@@ -66,8 +66,8 @@ loop-again c =
             let w = l .inv .1 .1 r h e in (
               omega arith,
               (
-                rw up (sym (same-above (a .parents .now) (a .sequences .now) (a .root .0) (l .known) small (w .1 .1) (l .current) (w .0) (λ q. c .if1 .left (up ∙ q))) ∙ w .1 .0),
-                rw (p .ensures) (remembered _ _ _ (l .known) (l .current) _ (w .1 .1) (w .1 .0)),
+                rw up (sym (same-above (a .parents .now) (a .sequences .now) (a .root .0) (l .known) small (w .1 .1) (l .current .0) (w .0) (λ q. c .if1 .left (up ∙ q))) ∙ w .1 .0),
+                rw (p .ensures) (remembered _ _ _ (l .known) (l .current .0) _ (w .1 .1) (w .1 .0)),
               ),
             ),
       ),

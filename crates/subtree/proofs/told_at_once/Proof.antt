@@ -15,7 +15,7 @@ returns c = rw (ne-eqb _ _ (λ q. c .if1 .taken (c .before .byte-at .ensures ∙
 returns-2 : tie.Need-returns-2
 unfolding atOnce
 returns-2 c =
-    let b = c .before .before in
+    let b = c .before .before .before in
     rw (eq-eqb _ _ (sym (b .before .byte-at .ensures) ∙ b .if1 .left), eq-eqb _ _ (c .if2 .taken))
 
 word-at-requires : tie.Need-word-at-requires
@@ -24,8 +24,8 @@ word-at-requires c κs = tt
 returns-3 : tie.Need-returns-3
 unfolding atOnce
 returns-3 c =
-    let b = c .before .before .before .before in
-    rw (eq-eqb _ _ (sym (b .before .byte-at .ensures) ∙ b .if1 .left), ne-eqb _ _ (c .before .before .if2 .left), eq-eqb _ _ (sym (c .before .word-at .ensures) ∙ c .if3 .taken))
+    let b = c .before .before .before .before .before .before in
+    rw (eq-eqb _ _ (sym (b .before .byte-at .ensures) ∙ b .if1 .left), ne-eqb _ _ (c .before .before .before .if2 .left), eq-eqb _ _ (sym (c .before .before .word-at .ensures) ∙ c .if3 .taken))
 
 byte-at-requires-2 : tie.Need-byte-at-requires-2
 byte-at-requires-2 c κs = tt
@@ -33,9 +33,9 @@ byte-at-requires-2 c κs = tt
 returns-4 : tie.Need-returns-4
 unfolding atOnce
 returns-4 c =
-    let b = c .before .before .before .before .before in
-    let p = c .before .before .word-at .ensures in
-    rw (eq-eqb _ _ (sym (b .before .byte-at .ensures) ∙ b .if1 .left), ne-eqb _ _ (c .before .before .before .if2 .left), ne-eqb _ _ (λ q. c .before .if3 .left (p ∙ q)), ← p) (c .byte-at2 .ensures)
+    let b = c .before .before .before .before .before .before .before in
+    let p = c .before .before .before .word-at .ensures in
+    rw (eq-eqb _ _ (sym (b .before .byte-at .ensures) ∙ b .if1 .left), ne-eqb _ _ (c .before .before .before .before .if2 .left), ne-eqb _ _ (λ q. c .before .if3 .left (p ∙ q)), ← p) (c .byte-at2 .ensures)
 
 pub told-at-once-spec : {M : Type 1} → statement M
 told-at-once-spec =

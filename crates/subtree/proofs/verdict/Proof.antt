@@ -14,9 +14,9 @@ use Rattle.subtree.proofs.verdict.Tie as tie
 abbrev Inv-loop : tie.InvT-loop
 Inv-loop parents sequences root known n current₀ tries₀ current tries =
     (tries ≤ n)
-    × ((reaches parents sequences (root .0) n current₀ ≡ reaches parents sequences (root .0) (n - tries) current)
-    × (Right parents sequences (root .0) known → current₀ < slotsOf sequences
-    → (current < NONE) × (reaches parents sequences (root .0) (slotsOf sequences) current₀ ≡ reaches parents sequences (root .0) (slotsOf sequences) current)))
+    × ((reaches parents sequences (root .0) n (current₀ .0) ≡ reaches parents sequences (root .0) (n - tries) (current .0))
+    × (Right parents sequences (root .0) known → (current₀ .0) < slotsOf sequences
+    → (current .0 < NONE) × (reaches parents sequences (root .0) (slotsOf sequences) (current₀ .0) ≡ reaches parents sequences (root .0) (slotsOf sequences) (current .0))))
 
 abbrev μ-loop : tie.MeasureT-loop
 μ-loop parents sequences root known n current₀ tries₀ current tries = n - tries
@@ -36,11 +36,11 @@ told-at-requires c κs = tt
 
 returns : tie.Need-returns Inv-loop μ-loop
 returns c r l =
-    let a = c .before .before .before .before .before .before .before .before .before .args in
-    let at = c .before .before .before .before .loop .current in
-    let small = small-parents (a .parents .now) (λ i. omega (arith, c .before .before .before .before .before .before .before .before .shared-slice-known .given i)) in
-    c .before .before .before .before .loop .inv .1 .1 r l .1
-    ∙ end-told (a .parents .now) (a .sequences .now) (a .root .0) (a .known .now) small r at (omega arith) (sym (c .before .before .above .ensures) ∙ c .before .if1 .taken)
+    let a = c .before .before .before .before .before .before .before .before .before .before .before .args in
+    let at = c .before .before .before .before .before .before .loop .current .0 in
+    let small = small-parents (a .parents .now) (λ i. omega (arith, c .before .before .before .before .before .before .before .before .before .before .shared-slice-known .given i)) in
+    c .before .before .before .before .before .before .loop .inv .1 .1 r l .1
+    ∙ end-told (a .parents .now) (a .sequences .now) (a .root .0) (a .known .now) small r at (omega arith) (sym (c .before .before .before .before .above .ensures) ∙ c .before .if1 .taken)
     ∙ rw (c .told-at .ensures)
 
 add-tries : tie.Need-add-tries Inv-loop μ-loop
@@ -51,19 +51,19 @@ loop-less c = omega arith
 
 loop-again : tie.Need-loop-again Inv-loop μ-loop
 loop-again c =
-    let a = c .before .before .before .before .before .before .before .before .args in
-    let n = c .before .before .before .before .slots .result in
-    let l = c .before .before .before .loop in
-    let up = c .before .above .ensures in
+    let a = c .before .before .before .before .before .before .before .before .before .before .args in
+    let n = c .before .before .before .before .before .before .slots .result in
+    let l = c .before .before .before .before .before .loop in
+    let up = c .before .before .before .above .ensures in
     let k : ℕ = n - (l .tries + 1) in
     let e : n - l .tries ≡ suc k = omega arith in
-    let small = small-parents (a .parents .now) (λ i. omega (arith, c .before .before .before .before .before .before .before .shared-slice-known .given i)) in (
+    let small = small-parents (a .parents .now) (λ i. omega (arith, c .before .before .before .before .before .before .before .before .before .shared-slice-known .given i)) in (
       omega arith,
       (
-        l .inv .1 .0 ∙ rw (e, up) (try-above (a .parents .now) (a .sequences .now) (a .root .0) (a .known .now) k (l .current) (λ q. c .if1 .left (up ∙ q))),
+        l .inv .1 .0 ∙ rw (e, up) (try-above (a .parents .now) (a .sequences .now) (a .root .0) (a .known .now) k (l .current .0) (λ q. c .if1 .left (up ∙ q))),
         λ r h. (
           omega arith,
-          l .inv .1 .1 r h .1 ∙ rw up (same-above (a .parents .now) (a .sequences .now) (a .root .0) (a .known .now) small r (l .current) (l .inv .1 .1 r h .0) (λ q. c .if1 .left (up ∙ q))),
+          l .inv .1 .1 r h .1 ∙ rw up (same-above (a .parents .now) (a .sequences .now) (a .root .0) (a .known .now) small r (l .current .0) (l .inv .1 .1 r h .0) (λ q. c .if1 .left (up ∙ q))),
         ),
       ),
     )
@@ -72,7 +72,7 @@ returns-2 : tie.Need-returns-2 Inv-loop μ-loop
 returns-2 c r h =
     let l = c .before .loop in
     let n = c .before .before .slots in
-    rw (← n .ensures) (l .inv .1 .0 ∙ reaches-spent _ _ _ (n .result - l .tries) (l .current) (omega arith))
+    rw (← n .ensures) (l .inv .1 .0 ∙ reaches-spent _ _ _ (n .result - l .tries) (l .current .0) (omega arith))
 
 pub verdict-spec : {M : Type 1} → statement M
 verdict-spec =

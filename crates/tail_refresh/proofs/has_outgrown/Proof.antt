@@ -35,9 +35,9 @@ word-at-requires-2 c κs = tt
 returns-3 : tie.Need-returns-3
 unfolding outgrown
 returns-3 c =
-    let e : stored (c .before .before .before .before .before .before .before .before .before .before .before .before .before .before .before .before .before .args .tips .now) (c .before .before .before .before .before .before .before .before .before .before .before .before .before .before .before .before .before .args .connected .now) (c .before .before .before .before .before .before .before .before .before .before .before .before .before .before .before .before .before .args .head .0) ≡ true = sym (c .before .before .before .before .before .is-stored .ensures) ∙ not-false (c .before .before .before .before .before .is-stored .result) (c .before .before .before .before .if1 .left) in
-    let o : occupied (c .before .before .before .before .before .before .before .before .before .before .before .before .before .before .before .before .before .args .sequences .now) (c .before .before .before .word-at .result) ≡ true = sym (c .before .before .is-occupied .ensures) ∙ not-false (c .before .before .is-occupied .result) (c .before .if2 .left) in
-    rw (e, ← c .before .before .before .word-at .ensures, o, ← c .word-at2 .ensures)
+    let e : stored (c .before .before .before .before .before .before .before .before .before .before .before .before .before .before .before .before .before .before .args .tips .now) (c .before .before .before .before .before .before .before .before .before .before .before .before .before .before .before .before .before .before .args .connected .now) (c .before .before .before .before .before .before .before .before .before .before .before .before .before .before .before .before .before .before .args .head .0) ≡ true = sym (c .before .before .before .before .before .before .is-stored .ensures) ∙ not-false (c .before .before .before .before .before .before .is-stored .result) (c .before .before .before .before .before .if1 .left) in
+    let o : occupied (c .before .before .before .before .before .before .before .before .before .before .before .before .before .before .before .before .before .before .args .sequences .now) (c .before .before .before .before .word-at .result) ≡ true = sym (c .before .before .before .is-occupied .ensures) ∙ not-false (c .before .before .before .is-occupied .result) (c .before .before .if2 .left) in
+    rw (e, ← c .before .before .before .before .word-at .ensures, o, ← c .before .word-at2 .ensures)
 
 pub has-outgrown-spec : {M : Type 1} → statement M
 has-outgrown-spec =

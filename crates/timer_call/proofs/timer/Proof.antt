@@ -25,7 +25,7 @@ unfolding timer
 returns c =
     let p = c .before .before .before .before .before .before .before .before .before .before .before .before .before .before .before .args in
     let e : shaped (tablesOf (p .hashes .now) (p .parents .now) (p .sequences .now) (p .counts .now) (p .flags .now) (p .tips .now) (p .tails .now) (p .missing .now) (p .requested .now) (p .arrivals .now) (p .connected .now)) ≡ false = sym (c .before .before .is-shaped .ensures) ∙ not-true (c .before .before .is-shaped .result) (c .before .if1 .taken) in
-    λ a. (rw (c .nothing .ensures .0, e), rw e)
+    λ a. (rw (c .nothing .ensures .0, e), (rw (c .nothing .ensures .1, e), rw e))
 
 ticks-requires : tie.Need-ticks-requires
 ticks-requires c κs = tt
@@ -57,7 +57,7 @@ returns-2 c =
     let p = c .before .before .before .before .before .before .before .before .before .before .before .before .before .before .before .before .before .before .before .before .args in
     let e : shaped (tablesOf (p .hashes .now) (p .parents .now) (p .sequences .now) (p .counts .now) (p .flags .now) (p .tips .now) (p .tails .now) (p .missing .now) (p .requested .now) (p .arrivals .now) (p .connected .now)) ≡ true = sym (c .before .before .before .before .before .before .before .is-shaped .ensures) ∙ not-false (c .before .before .before .before .before .before .before .is-shaped .result) (c .before .before .before .before .before .before .if1 .left) in
     let f = ap (λ (x : ℕ). recovery (p .hashes .now) (p .sequences .now) (p .tips .now) (p .tails .now) (p .requested .now) (p .connected .now) (p .clock) x) (sym (c .before .before .before .before .ticks .ensures)) ∙ sym (c .before .before .before .select-parent-recovery .ensures) ∙ ap askChosen (c .before .enum-told .given .1) in
-    λ a. (rw (c .nothing2 .ensures .0, e, f), rw (e, f))
+    λ a. (rw (c .nothing2 .ensures .0, e, f), (rw (c .nothing2 .ensures .1, e, f), rw (e, f)))
 
 same-length-3 : tie.Need-same-length-3
 same-length-3 c = c .before .before .mark-requested .kept .0
@@ -68,7 +68,7 @@ returns-3 c =
     let p = c .before .before .before .before .before .before .before .before .before .before .before .before .before .before .before .before .before .before .before .before .before .before .before .before .before .args in
     let e : shaped (tablesOf (p .hashes .now) (p .parents .now) (p .sequences .now) (p .counts .now) (p .flags .now) (p .tips .now) (p .tails .now) (p .missing .now) (p .requested .now) (p .arrivals .now) (p .connected .now)) ≡ true = sym (c .before .before .before .before .before .before .before .before .before .before .before .before .is-shaped .ensures) ∙ not-false (c .before .before .before .before .before .before .before .before .before .before .before .before .is-shaped .result) (c .before .before .before .before .before .before .before .before .before .before .before .if1 .left) in
     let f = ap (λ (x : ℕ). recovery (p .hashes .now) (p .sequences .now) (p .tips .now) (p .tails .now) (p .requested .now) (p .connected .now) (p .clock) x) (sym (c .before .before .before .before .before .before .before .before .before .ticks .ensures)) ∙ sym (c .before .before .before .before .before .before .before .before .select-parent-recovery .ensures) ∙ ap askChosen (c .before .before .before .before .before .before .head .given .1) in
-    λ a. (rw (e, f, c .before .before .before .before .hash-at .ensures), rw (e, f, c .before .before .mark-requested .ensures))
+    λ a. (rw (e, f, c .before .before .before .before .hash-at .ensures), (rw (e, f, c .before .before .before .before .hash-at .ensures), rw (e, f, c .before .before .mark-requested .ensures)))
 
 pub timer-spec : {M : Type 1} → statement M
 timer-spec =

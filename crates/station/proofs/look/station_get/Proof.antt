@@ -2,6 +2,7 @@ use mathlib.Core.Path.{_≡_, refl}
 use mathlib.Core.Option.{none, some}
 use Rattle.rules.specs.Records.{blocksOf}
 use Rattle.rules.specs.BlockTable.{get}
+use Rattle.block_reading.proofs.Got.{nothing-there, block-there}
 use borrow.Author.Needs.{needs}
 use Rattle.station.proofs.look.station_get.Statement.{statement}
 use Rattle.station.proofs.look.station_get.Tie as tie
@@ -31,14 +32,14 @@ returns : tie.Need-returns
 returns c =
     let a = c .before .before .before .before .before .before .before .before .before .before .before .before .before .before .before .before .before .before .before .args in
     let b = blocksOf (a .hashes .now) (a .parents .now) (a .sequences .now) (a .counts .now) (a .flags .now) in
-    let e : some (c .before .before .before .before .before .before .before .before .before .before .before .get .result .block) ≡ get b (a .slot) = rw (c .before .before .before .before .before .before .before .before .before .before .if1 .taken) at (c .before .before .before .before .before .before .before .before .before .before .before .get .ensures) in
+    let e : some (c .before .before .before .before .before .before .before .before .before .before .before .get .result .block) ≡ get b (a .slot) = block-there _ _ (c .before .before .before .before .before .before .before .before .before .before .before .get .ensures) (c .before .before .before .before .before .before .before .before .before .before .if1 .taken) in
     rw (← e) (refl, (c .before .before .before .before .before .before .put-hash .ensures, c .before .before .put-words .ensures))
 
 returns-2 : tie.Need-returns-2
 returns-2 c =
     let a = c .before .before .before .before .before .before .before .before .before .args in
     let b = blocksOf (a .hashes .now) (a .parents .now) (a .sequences .now) (a .counts .now) (a .flags .now) in
-    let e : none ≡ get b (a .slot) = rw (c .if1 .left) at (c .before .get .ensures) in
+    let e : none ≡ get b (a .slot) = nothing-there _ _ (c .before .get .ensures) (c .if1 .left) in
     rw (← e) (refl, (refl, refl))
 
 pub station-get-spec : {M : Type 1} → statement M

@@ -42,10 +42,10 @@ use denote.Signature.{plain}
 use Rattle.rules.specs.Records.{tablesOf as given}
 use Rattle.rules.specs.Calls.{stateOf, promote}
 use Rattle.call_numbers.specs.Numbers.{answerNumber}
-use Rattle.record_calls.specs.declared.ActiveHead.{ActiveHead}
+use Rattle.station.specs.declared.record.ActiveSlot.{ActiveSlot}
 use Rattle.station.specs.declared.record.Kept.{Kept}
-use Rattle.record_calls.proofs.ActiveHead as T
-use Rattle.record_calls.proofs.ActiveHead.Laws as T′
+use Rattle.station.proofs.record.ActiveSlot as T
+use Rattle.station.proofs.record.ActiveSlot.Laws as T′
 use Rattle.station.proofs.record.Kept as P
 use Rattle.station.proofs.record.Kept.Laws as P′
 use Rattle.station.proofs.record.promote_kept as callee
@@ -64,7 +64,7 @@ stayed = (stay-none-slice (0 ∷ []) tt (plain (λ _. u8)) yes, (stay-none-slice
 abbrev Callee : {M : Type 1} (𝓤 : URA M) (H : Heap 𝓤) (A : Atoms 𝓤) (mem : Memory → SProp 𝓤) (run : Routine → Fun 𝓤) → Contract 𝓤
 Callee 𝓤 H A mem run = tripleOf 𝓤 H A callee.signature (callee.spec 𝓤 H A mem run)
 
-module _ {M : Type 1} (𝓤 : URA M) (H : Heap 𝓤) (A : Atoms 𝓤) (W : Given 𝓤 H A) (at-mem : Memory → SProp 𝓤) (run : Routine → Fun 𝓤) (κ₀ κ₁ κ₂ κ₃ κ₄ κ₅ κ₆ κ₇ κ₈ κ₉ κ₁₀ κ₁₁ : Lft) (q₀ q₁ q₂ q₃ q₄ q₅ q₆ q₇ q₈ q₉ q₁₀ q₁₁ : Share) (b₀ o₀ : ℕ) (γ₀ : GName) (ys₀ : List ℕ) (b₁ o₁ : ℕ) (γ₁ : GName) (ys₁ : List ℕ) (b₂ o₂ : ℕ) (γ₂ : GName) (ys₂ : List ℕ) (b₃ o₃ : ℕ) (γ₃ : GName) (ys₃ : List ℕ) (b₄ o₄ : ℕ) (γ₄ : GName) (ys₄ : List ℕ) (b₅ o₅ : ℕ) (γ₅ : GName) (ys₅ : List ℕ) (b₆ o₆ : ℕ) (γ₆ : GName) (ys₆ : List ℕ) (b₇ o₇ : ℕ) (γ₇ : GName) (ys₇ : List ℕ) (b₈ o₈ : ℕ) (γ₈ : GName) (ys₈ : List ℕ) (b₉ o₉ : ℕ) (γ₉ : GName) (ys₉ : List ℕ) (b₁₀ o₁₀ : ℕ) (γ₁₀ : GName) (ys₁₀ : List ℕ) (b o : ℕ) (γ : GName) (h : ActiveHead) (n₁₂ : ℕ) (room₀ : Room u8 (length ys₀)) (room₁ : Room u32 (length ys₁)) (room₂ : Room u32 (length ys₂)) (room₃ : Room u8 (length ys₃)) (room₄ : Room u8 (length ys₄)) (room₅ : Room u32 (length ys₅)) (room₆ : Room u32 (length ys₆)) (room₇ : Room u8 (length ys₇)) (room₈ : Room u64 (length ys₈)) (room₉ : Room u64 (length ys₉)) (room₁₀ : Room u8 (length ys₁₀)) (fit₁₂ : n₁₂ < 2 ^ 32) where
+module _ {M : Type 1} (𝓤 : URA M) (H : Heap 𝓤) (A : Atoms 𝓤) (W : Given 𝓤 H A) (at-mem : Memory → SProp 𝓤) (run : Routine → Fun 𝓤) (κ₀ κ₁ κ₂ κ₃ κ₄ κ₅ κ₆ κ₇ κ₈ κ₉ κ₁₀ κ₁₁ : Lft) (q₀ q₁ q₂ q₃ q₄ q₅ q₆ q₇ q₈ q₉ q₁₀ q₁₁ : Share) (b₀ o₀ : ℕ) (γ₀ : GName) (ys₀ : List ℕ) (b₁ o₁ : ℕ) (γ₁ : GName) (ys₁ : List ℕ) (b₂ o₂ : ℕ) (γ₂ : GName) (ys₂ : List ℕ) (b₃ o₃ : ℕ) (γ₃ : GName) (ys₃ : List ℕ) (b₄ o₄ : ℕ) (γ₄ : GName) (ys₄ : List ℕ) (b₅ o₅ : ℕ) (γ₅ : GName) (ys₅ : List ℕ) (b₆ o₆ : ℕ) (γ₆ : GName) (ys₆ : List ℕ) (b₇ o₇ : ℕ) (γ₇ : GName) (ys₇ : List ℕ) (b₈ o₈ : ℕ) (γ₈ : GName) (ys₈ : List ℕ) (b₉ o₉ : ℕ) (γ₉ : GName) (ys₉ : List ℕ) (b₁₀ o₁₀ : ℕ) (γ₁₀ : GName) (ys₁₀ : List ℕ) (b o : ℕ) (γ : GName) (h : ActiveSlot) (n₁₂ : ℕ) (room₀ : Room u8 (length ys₀)) (room₁ : Room u32 (length ys₁)) (room₂ : Room u32 (length ys₂)) (room₃ : Room u8 (length ys₃)) (room₄ : Room u8 (length ys₄)) (room₅ : Room u32 (length ys₅)) (room₆ : Room u32 (length ys₆)) (room₇ : Room u8 (length ys₇)) (room₈ : Room u64 (length ys₈)) (room₉ : Room u64 (length ys₉)) (room₁₀ : Room u8 (length ys₁₀)) (fit₁₂ : n₁₂ < 2 ^ 32) where
   abbrev x₀ : RefT (List ℕ)
   x₀ = record { ptr = (b₀, o₀); name = γ₀; now = ys₀ }
 
@@ -131,11 +131,11 @@ module _ {M : Type 1} (𝓤 : URA M) (H : Heap 𝓤) (A : Atoms 𝓤) (W : Given
   abbrev s₁₀ : Val
   s₁₀ = sliceVal (b₁₀, o₁₀) (length ys₁₀)
 
-  abbrev h₀ : RefT ActiveHead
+  abbrev h₀ : RefT ActiveSlot
   h₀ = record { ptr = (b, o); name = γ; now = h }
 
   abbrev Arg : Type 0
-  Arg = (RefT (List ℕ) × (RefT (List ℕ) × (RefT (List ℕ) × (RefT (List ℕ) × (RefT (List ℕ) × (RefT (List ℕ) × (RefT (List ℕ) × (RefT (List ℕ) × (RefT (List ℕ) × (RefT (List ℕ) × (RefT (List ℕ) × (RefT ActiveHead × (ℕ × Unit {0})))))))))))))
+  Arg = (RefT (List ℕ) × (RefT (List ℕ) × (RefT (List ℕ) × (RefT (List ℕ) × (RefT (List ℕ) × (RefT (List ℕ) × (RefT (List ℕ) × (RefT (List ℕ) × (RefT (List ℕ) × (RefT (List ℕ) × (RefT (List ℕ) × (RefT ActiveSlot × (ℕ × Unit {0})))))))))))))
 
   abbrev a : Arg
   a = (x₀, (x₁, (x₂, (x₃, (x₄ ys₄, (x₅, (x₆ ys₆, (x₇ ys₇, (x₈ ys₈, (x₉, (x₁₀ ys₁₀, (h₀, (n₁₂, tt)))))))))))))
@@ -166,7 +166,7 @@ module _ {M : Type 1} (𝓤 : URA M) (H : Heap 𝓤) (A : Atoms 𝓤) (W : Given
   Last = (Unit {0} × (Unit {0} × (Unit {0} × (Unit {0} × (List ℕ × (Unit {0} × (List ℕ × (List ℕ × (List ℕ × (Unit {0} × (List ℕ × (Unit {0} × (Unit {0} × Unit {0})))))))))))))
 
   -- the record that is left
-  abbrev h′ : Kept → ActiveHead
+  abbrev h′ : Kept → ActiveSlot
   h′ r = record { slot = r .active }
 
   -- what the callee says

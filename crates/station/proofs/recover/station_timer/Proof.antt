@@ -23,7 +23,7 @@ same-length-3 : tie.Need-same-length-3
 same-length-3 c = search needs
 
 returns : tie.Need-returns
-returns c = λ a. rw (← c .before .before .before .before .before .before .before .before .before .before .before .span-from .ensures) ((c .before .before .before .before .timed-number .ensures .0 ∙ ap answerNumber (c .before .before .before .before .before .before .before .before .before .before .timer .ensures a .0), (c .before .before .before .before .timed-number .ensures .1 .0 ∙ ap (λ s. claimedTo s (c .before .before .before .before .before .before .before .before .before .before .before .before .before .before .before .before .before .before .before .before .before .before .before .before .before .before .args .claimed .now)) (c .before .before .before .before .before .before .before .before .before .before .timer .ensures a .0), (c .before .before .before .before .timed-number .ensures .1 .1 ∙ ap (λ s. wantedTo s (c .before .before .before .before .before .before .before .before .before .before .before .before .before .before .before .before .before .before .before .before .before .before .before .before .before .before .args .wanted .now)) (c .before .before .before .before .before .before .before .before .before .before .timer .ensures a .0), c .before .before .before .before .before .before .before .before .before .before .timer .ensures a .1))))
+returns c = λ a. rw (← c .before .before .before .before .before .before .before .before .before .before .before .span-from .ensures) ((c .before .before .before .before .timed-number .ensures .0 ∙ ap answerNumber (c .before .before .before .before .before .before .before .before .before .before .timer .ensures a .0), (c .before .before .before .before .timed-number .ensures .1 .0 ∙ ap (λ s. claimedTo s (c .before .before .before .before .before .before .before .before .before .before .before .before .before .before .before .before .before .before .before .before .before .before .before .before .before .before .args .claimed .now)) (c .before .before .before .before .before .before .before .before .before .before .timer .ensures a .0), (c .before .before .before .before .timed-number .ensures .1 .1 ∙ ap (λ s. wantedTo s (c .before .before .before .before .before .before .before .before .before .before .before .before .before .before .before .before .before .before .before .before .before .before .before .before .before .before .args .wanted .now)) (c .before .before .before .before .before .before .before .before .before .before .timer .ensures a .0), c .before .before .before .before .before .before .before .before .before .before .timer .ensures a .1 .1))))
 
 pub station-timer-spec : {M : Type 1} → statement M
 station-timer-spec =

@@ -13,7 +13,7 @@ struct Point {
     calls: &'static [&'static str],
 }
 
-const POINTS: [Point; 4] = [
+const POINTS: [Point; 7] = [
     Point {
         title: "a fork evicts the only sibling: the new head misses zeros, its tail's previous hash is 02",
         n: 4,
@@ -27,10 +27,28 @@ const POINTS: [Point; 4] = [
         calls: &["A 0 02 00 0", "A 2 03 01 0", "A 1 01 04 0", "A 2 05 01 0"],
     },
     Point {
+        title: "the head above the tail is connected and knows no hash: the new head misses zeros, not 02",
+        n: 3,
+        m: 2,
+        calls: &["A 1 01 02 0", "A 2 03 01 0", "P 1", "A 2 04 01 0"],
+    },
+    Point {
+        title: "a restart knows no hash: the head misses zeros, not 02",
+        n: 1,
+        m: 2,
+        calls: &["A 1 01 02 0", "R 0"],
+    },
+    Point {
         title: "the merged-away head alone knew the deeper tail: the head misses 02, which has arrived, not 03",
         n: 3,
         m: 2,
         calls: &["A 1 01 03 0", "A 3 04 02 0", "A 2 02 01 0"],
+    },
+    Point {
+        title: "the head finds itself before the one that knows the deeper tail: it misses 02, which has arrived, not 03",
+        n: 4,
+        m: 3,
+        calls: &["A 3 04 02 0", "A 1 01 03 0", "A 2 05 01 0", "A 2 02 01 0"],
     },
     Point {
         title: "admit's added step: without it head 0 stays on block 1, which has got a parent",

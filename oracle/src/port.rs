@@ -3,7 +3,9 @@
 
 use crate::args::Rank;
 use crate::entries::{call, entries};
-use crate::tables::{Block, BlockStatus, Hash, Located, NONE_REF, Recovery, SPARE, Tables};
+use crate::tables::{
+    Block, BlockStatus, Hash, Located, NONE_REF, NotInserted, Recovery, SPARE, Tables,
+};
 
 entries! {
     probe_hash_less([u8], [u8]) -> u32;
@@ -22,12 +24,20 @@ entries! {
     probe_insert_at(
         [mut u8], [mut u32], [mut u32], [mut u8], [mut u8], u32, [u8], u32, u32, u8, u8
     );
+    probe_insert(
+        [mut u8], [mut u32], [mut u32], [mut u8], [mut u8], [u8], u32, u32, u8, u8
+    ) -> u64;
     probe_delete([mut u8], [mut u32], [mut u32], [mut u8], [mut u8], u32) -> u32;
     probe_resolve_parent_ref([mut u32], u32, u32);
+    probe_set_parent_ref([mut u32], [u32], u32, u32) -> u32;
     station_count([u32]) -> u32;
     station_has_stored_head([u32], [u8]) -> u32;
     station_slot_of_head([u32], u32) -> u32;
     probe_first_empty([u32]) -> u32;
+    probe_next_occupied_head([u32], [u32], u32, [mut u32]) -> u32;
+    probe_connected_head_at([u32], [u8], u32) -> u64;
+    probe_stored_head_tail([u32], [u32], [u8], u32) -> u64;
+    probe_set_missing_parent_hash([u32], [mut u8], u32, [u8]);
     station_locate_anchor([u32], [u32], [u8], u32) -> u64;
     probe_recompute_caches(
         [u32], [u32], [u8], [u32], [mut u32], [mut u8], [mut u64], [mut u8], u32, u32, [u8]
@@ -76,6 +86,11 @@ entries! {
 
 fn found(answer: u32) -> Option<u32> {
     (answer != NONE_REF).then_some(answer)
+}
+
+/// Of an answer that may be NONE_REF: 2^32 is none.
+fn found_any(answer: u64) -> Option<u32> {
+    u32::try_from(answer).ok()
 }
 
 fn counted(answer: u32) -> Option<u8> {
@@ -183,6 +198,27 @@ pub fn insert_at(
     ))
 }
 
+/// 2^32 stands for the reserved sequence, and one more for a full table.
+pub fn insert(
+    t: &mut Tables,
+    hash: Hash,
+    parent: u32,
+    sequence: u32,
+    count: u8,
+    flags: u8,
+) -> Result<u32, NotInserted> {
+    let answer = call!(probe_insert(
+        [mut t.hashes], [mut t.parents], [mut t.sequences], [mut t.counts], [mut t.flags],
+        [hash], parent, sequence, count, flags
+    ));
+    match halves(answer) {
+        (0, slot) => Ok(slot),
+        (1, 0) => Err(NotInserted::ReservedSequence),
+        (1, 1) => Err(NotInserted::Full),
+        other => panic!("not an answer of insert: {other:?}"),
+    }
+}
+
 pub fn delete(t: &mut Tables, slot: u32) -> bool {
     said(call!(probe_delete(
         [mut t.hashes], [mut t.parents], [mut t.sequences], [mut t.counts], [mut t.flags], slot
@@ -191,6 +227,10 @@ pub fn delete(t: &mut Tables, slot: u32) -> bool {
 
 pub fn resolve_parent_ref(t: &mut Tables, slot: u32, parent: u32) {
     call!(probe_resolve_parent_ref([mut t.parents], slot, parent))
+}
+
+pub fn set_parent_ref(t: &mut Tables, slot: u32, parent: u32) -> bool {
+    said(call!(probe_set_parent_ref([mut t.parents], [t.sequences], slot, parent)))
 }
 
 pub fn count(t: &Tables) -> usize {
@@ -207,6 +247,33 @@ pub fn slot_of_head(t: &Tables, slot: u32) -> Option<u32> {
 
 pub fn first_empty(t: &Tables) -> Option<u32> {
     found(call!(probe_first_empty([t.tips])))
+}
+
+/// Tip and anchor of each head in use from a head slot on, one after the other.
+pub fn occupied_heads(t: &Tables, head: u32) -> Vec<(u32, u32)> {
+    let mut heads = Vec::new();
+    let mut from = head;
+    let mut out = [SPARE; 3];
+    while heads.len() <= t.m()
+        && said(call!(probe_next_occupied_head([t.tips], [t.tails], from, [mut out])))
+    {
+        let [slot, tip, anchor] = out;
+        heads.push((tip, anchor));
+        from = slot.wrapping_add(1);
+    }
+    heads
+}
+
+pub fn connected_head_at(t: &Tables, head: u32) -> Option<u32> {
+    found_any(call!(probe_connected_head_at([t.tips], [t.connected], head)))
+}
+
+pub fn stored_head_tail(t: &Tables, head: u32) -> Option<u32> {
+    found_any(call!(probe_stored_head_tail([t.tips], [t.tails], [t.connected], head)))
+}
+
+pub fn set_missing_parent_hash(t: &mut Tables, head: u32, hash: Hash) {
+    call!(probe_set_missing_parent_hash([t.tips], [mut t.missing], head, [hash]))
 }
 
 /// 2^32 is added to a connection.

@@ -61,6 +61,13 @@ pub struct Recovery {
     pub claimed: u32,
 }
 
+/// Why a block is not inserted.
+#[derive(Debug, Clone, Copy, PartialEq, Eq)]
+pub enum NotInserted {
+    ReservedSequence,
+    Full,
+}
+
 /// The five buffers of n blocks, the six of m heads, and the active head's slot.
 #[derive(Debug, Clone, PartialEq, Eq, Hash)]
 pub struct Tables {

@@ -1,14 +1,19 @@
 // A block inserted, deleted, or given its parent.
 ghost use mathlib.Core.Path.{_≡_};
 ghost use Rattle.rules.specs.Records.{blocksOf, occupied, putBlock};
-ghost use Rattle.rules.specs.BlockTable.{delete as deleteRule, insertAt, resolveParent};
+ghost use Rattle.rules.specs.BlockTable.{delete as deleteRule, insertion, insert as insertRule, insertAt, resolveParent, setParent};
+ghost use Rattle.rules.specs.Answers.{insertionMade};
 use blocks::is_occupied;
+use blocks::next_free_index;
 use cells::put_byte;
 use cells::put_hash;
 use cells::put_word;
 use cells::slots;
 use rules::Block;
 use rules::BlockSlot;
+use rules::Found;
+use rules::Inserted;
+use rules::Sequence;
 
 fn put_block(
     hashes: &mut [u8],
@@ -47,6 +52,28 @@ pub fn insert_at(
     }
 }
 
+pub fn insert(
+    hashes: &mut [u8],
+    parents: &mut [u32],
+    sequences: &mut [u32],
+    counts: &mut [u8],
+    flags: &mut [u8],
+    block: Block,
+) -> Inserted
+    ensures { λ r. ⌜ (insertionMade r ≡ insertion (now (sequences .entry)) block)
+        × (blocksOf (now (hashes .exit)) (now (parents .exit)) (now (sequences .exit)) (now (counts .exit)) (now (flags .exit))
+        ≡ insertRule (blocksOf (now (hashes .entry)) (now (parents .entry)) (now (sequences .entry)) (now (counts .entry)) (now (flags .entry))) block) ⌝ }
+{
+    if block.sequence.0 == Sequence::NONE_REF.0 {
+        return Inserted::ReservedSequence;
+    }
+    let Found::At(slot) = next_free_index(sequences) else {
+        return Inserted::Full;
+    };
+    insert_at(hashes, parents, sequences, counts, flags, slot, block);
+    Inserted::At(slot)
+}
+
 pub fn delete(
     hashes: &mut [u8],
     parents: &mut [u32],
@@ -78,4 +105,20 @@ pub fn resolve_parent_ref(parents: &mut [u32], slot: BlockSlot, parent: BlockSlo
     ensures { λ _. ⌜ now (parents .exit) ≡ resolveParent (now (parents .entry)) (slot .0) (parent .0) ⌝ }
 {
     put_word(parents, slot.0, parent.0);
+}
+
+pub fn set_parent_ref(
+    parents: &mut [u32],
+    sequences: &[u32],
+    slot: BlockSlot,
+    parent: BlockSlot,
+) -> bool
+    ensures { λ r. ⌜ (r ≡ occupied (now (sequences .entry)) (slot .0))
+        × (now (parents .exit) ≡ setParent (now (parents .entry)) (now (sequences .entry)) (slot .0) (parent .0)) ⌝ }
+{
+    let there = is_occupied(sequences, slot);
+    if there {
+        resolve_parent_ref(parents, slot, parent);
+    }
+    there
 }

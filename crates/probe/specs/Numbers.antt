@@ -6,6 +6,8 @@ use lib.Dec.{eqb}
 use lib.ListN.{set}
 use Rattle.rules.specs.Common.{if_then_else_}
 use Rattle.rules.specs.Records.{NONE}
+use Rattle.rules.specs.BlockTable.{Insertion, intoSlot, reserved, full}
+use Rattle.rules.specs.Caches.{HeadInUse}
 use Rattle.rules.specs.Timer.{Ask}
 
 -- 1 is Connected, 2 Active, any other number Stored
@@ -29,3 +31,23 @@ timeGot (some time) times = set times 0 time
 -- the slot that a number stands for
 unfoldable pub slotOrNone : ℕ → Option ℕ
 slotOrNone slot = if eqb slot NONE then none else some slot
+
+-- a slot, NONE_REF among them; 2^32 is none
+abbrev pub slotNumber : Option ℕ → ℕ
+slotNumber none = 4294967296
+slotNumber (some slot) = slot
+
+-- a slot; 2^32 is the reserved sequence, and one more a full table
+abbrev pub insertionNumber : Insertion → ℕ
+insertionNumber (intoSlot slot) = slot
+insertionNumber reserved = 4294967296
+insertionNumber full = 4294967297
+
+-- slot, tip and anchor of a head in use are written to the first three places of a list
+abbrev pub isHead : Option HeadInUse → ℕ
+isHead none = 0
+isHead (some head) = 1
+
+abbrev pub headGot : Option HeadInUse → List ℕ → List ℕ
+headGot none out = out
+headGot (some head) out = set (set (set out 0 (head .slot)) 1 (head .tip)) 2 (head .anchor)

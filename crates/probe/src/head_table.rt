@@ -1,17 +1,76 @@
 // The head table, its anchors and its caches.
 ghost use mathlib.Core.Path.{_≡_};
 ghost use Rattle.as_numbers.specs.Numbers.{orNone};
-ghost use Rattle.rules.specs.Caches.{cachesOf, recompute, refreshHead, recomputeAll};
+ghost use Rattle.probe.specs.Numbers.{slotNumber, isHead, headGot};
+ghost use Rattle.rules.specs.Hashes.{hashAt};
+ghost use Rattle.rules.specs.Caches.{cachesOf, recompute, refreshHead, recomputeAll, nextHead, connectedHeadAt, storedHeadTail, setMissing};
 ghost use Rattle.rules.specs.Admission.{firstEmpty};
+use crate::numbers::any_slot;
 use as_numbers::found_head;
+use cells::put_word;
 use rules::BlockSlot;
 use rules::HeadSlot;
+use rules::NextHead;
 
 #[no_mangle]
 pub extern "C" fn probe_first_empty(tips: &[u32]) -> u32
     ensures { λ r. ⌜ r ≡ orNone (firstEmpty (now (tips .entry))) ⌝ }
 {
     found_head(heads::first_empty(tips))
+}
+
+// Whether there is a next head in use; its slot, tip and anchor are written to the first three places of the list.
+#[no_mangle]
+pub extern "C" fn probe_next_occupied_head(
+    tips: &[u32],
+    tails: &[u32],
+    from: u32,
+    out: &mut [u32],
+) -> u32
+    ensures { λ r. ⌜ (r ≡ isHead (nextHead (now (tips .entry)) (now (tails .entry)) from))
+        × (now (out .exit) ≡ headGot (nextHead (now (tips .entry)) (now (tails .entry)) from) (now (out .entry))) ⌝ }
+{
+    match head_entries::next_occupied_head(tips, tails, HeadSlot(from)) {
+        NextHead::At(head, tip, anchor) => {
+            put_word(out, 0, head.0);
+            put_word(out, 1, tip.0);
+            put_word(out, 2, anchor.0);
+            1
+        }
+        NextHead::Nothing => 0,
+    }
+}
+
+#[no_mangle]
+pub extern "C" fn probe_connected_head_at(tips: &[u32], connected: &[u8], head: u32) -> u64
+    ensures { λ r. ⌜ r ≡ slotNumber (connectedHeadAt (now (tips .entry)) (now (connected .entry)) head) ⌝ }
+{
+    any_slot(head_entries::connected_head_at(tips, connected, HeadSlot(head)))
+}
+
+#[no_mangle]
+pub extern "C" fn probe_stored_head_tail(
+    tips: &[u32],
+    tails: &[u32],
+    connected: &[u8],
+    head: u32,
+) -> u64
+    ensures { λ r. ⌜ r ≡ slotNumber (storedHeadTail (now (tips .entry)) (now (tails .entry)) (now (connected .entry)) head) ⌝ }
+{
+    any_slot(head_entries::stored_head_tail(tips, tails, connected, HeadSlot(head)))
+}
+
+#[no_mangle]
+pub extern "C" fn probe_set_missing_parent_hash(
+    tips: &[u32],
+    missing: &mut [u8],
+    head: u32,
+    hash: &[u8],
+)
+    ensures { λ _. ⌜ now (missing .exit) ≡ setMissing (now (tips .entry)) (now (missing .entry)) head (hashAt (now (hash .entry)) 0) ⌝ }
+{
+    let bytes = cells::hash_at(hash, 0);
+    head_entries::set_missing_parent_hash(tips, missing, HeadSlot(head), bytes);
 }
 
 #[no_mangle]

@@ -4,10 +4,10 @@ ghost use mathlib.Core.Path.{_≡_};
 ghost use mathlib.Core.Bool.{not};
 ghost use lib.Dec.{eqb};
 ghost use Rattle.as_numbers.specs.Numbers.{orNone, yes};
-ghost use Rattle.probe.specs.Numbers.{statusFrom};
+ghost use Rattle.probe.specs.Numbers.{insertionNumber, statusFrom};
 ghost use Rattle.rules.specs.Hashes.{hashAt, hashLess};
 ghost use Rattle.rules.specs.Records.{blocksOf, occupied, statusNumber};
-ghost use Rattle.rules.specs.BlockTable.{adjustedAt, adjustCounts, setOccupied, setOnActiveChain, setStatus, delete, insertAt, resolveParent};
+ghost use Rattle.rules.specs.BlockTable.{adjustedAt, adjustCounts, setOccupied, setOnActiveChain, setStatus, delete, insertion, insert, insertAt, resolveParent, setParent};
 ghost use Rattle.rules.specs.declared.Block.{Block};
 
 pub mod admit;
@@ -18,6 +18,7 @@ pub mod numbers;
 pub mod recover;
 pub mod restore;
 
+use crate::numbers::inserted;
 use as_numbers::counted;
 use as_numbers::said;
 use rules::Block;
@@ -133,6 +134,34 @@ pub extern "C" fn probe_insert_at(
 }
 
 #[no_mangle]
+pub extern "C" fn probe_insert(
+    hashes: &mut [u8],
+    parents: &mut [u32],
+    sequences: &mut [u32],
+    counts: &mut [u8],
+    flags: &mut [u8],
+    hash: &[u8],
+    parent: u32,
+    sequence: u32,
+    count: u8,
+    bits: u8,
+) -> u64
+    ensures { λ r. ⌜ (r ≡ insertionNumber (insertion (now (sequences .entry)) (record { hash = hashAt (now (hash .entry)) 0; parent = record { 0 = parent }; sequence = record { 0 = sequence }; count = count; flags = bits })))
+        × (blocksOf (now (hashes .exit)) (now (parents .exit)) (now (sequences .exit)) (now (counts .exit)) (now (flags .exit))
+        ≡ insert (blocksOf (now (hashes .entry)) (now (parents .entry)) (now (sequences .entry)) (now (counts .entry)) (now (flags .entry))) (record { hash = hashAt (now (hash .entry)) 0; parent = record { 0 = parent }; sequence = record { 0 = sequence }; count = count; flags = bits })) ⌝ }
+{
+    let bytes = cells::hash_at(hash, 0);
+    let block = Block {
+        hash: bytes,
+        parent: BlockSlot(parent),
+        sequence: Sequence(sequence),
+        count,
+        flags: bits,
+    };
+    inserted(block_changes::insert(hashes, parents, sequences, counts, flags, block))
+}
+
+#[no_mangle]
 pub extern "C" fn probe_delete(
     hashes: &mut [u8],
     parents: &mut [u32],
@@ -153,4 +182,17 @@ pub extern "C" fn probe_resolve_parent_ref(parents: &mut [u32], slot: u32, paren
     ensures { λ _. ⌜ now (parents .exit) ≡ resolveParent (now (parents .entry)) slot parent ⌝ }
 {
     block_changes::resolve_parent_ref(parents, BlockSlot(slot), BlockSlot(parent));
+}
+
+#[no_mangle]
+pub extern "C" fn probe_set_parent_ref(
+    parents: &mut [u32],
+    sequences: &[u32],
+    slot: u32,
+    parent: u32,
+) -> u32
+    ensures { λ r. ⌜ (r ≡ yes (occupied (now (sequences .entry)) slot))
+        × (now (parents .exit) ≡ setParent (now (parents .entry)) (now (sequences .entry)) slot parent) ⌝ }
+{
+    said(block_changes::set_parent_ref(parents, sequences, BlockSlot(slot), BlockSlot(parent)))
 }

@@ -1,9 +1,10 @@
-// The number that stands for a request, and the slot that a number stands for.
+// The numbers that stand for answers, and the slot that a number stands for.
 ghost use mathlib.Core.Path.{_≡_};
-ghost use Rattle.probe.specs.Numbers.{askNumber, slotOrNone};
-ghost use Rattle.rules.specs.Answers.{slotFound, askChosen};
+ghost use Rattle.probe.specs.Numbers.{askNumber, insertionNumber, slotNumber, slotOrNone};
+ghost use Rattle.rules.specs.Answers.{slotFound, insertionMade, askChosen};
 use rules::BlockSlot;
 use rules::Found;
+use rules::Inserted;
 use rules::Recovery;
 
 pub fn asked(r: Recovery) -> u64
@@ -15,10 +16,29 @@ pub fn asked(r: Recovery) -> u64
     }
 }
 
+pub fn inserted(r: Inserted) -> u64
+    ensures { λ answer. ⌜ answer ≡ insertionNumber (insertionMade r) ⌝ }
+{
+    match r {
+        Inserted::At(slot) => slot.0 as u64,
+        Inserted::ReservedSequence => 4294967296,
+        Inserted::Full => 4294967297,
+    }
+}
+
+pub fn any_slot(f: Found) -> u64
+    ensures { λ answer. ⌜ answer ≡ slotNumber (slotFound f) ⌝ }
+{
+    match f {
+        Found::At(slot) => slot.0 as u64,
+        Found::Nothing => 4294967296,
+    }
+}
+
 pub fn slot_or_none(slot: u32) -> Found
     ensures { λ r. ⌜ slotFound r ≡ slotOrNone slot ⌝ }
 {
-    if slot == BlockSlot::NONE_REF {
+    if slot == BlockSlot::NONE_REF.0 {
         return Found::Nothing;
     }
     Found::At(BlockSlot(slot))

@@ -1,9 +1,9 @@
 //! A child module of the original's blocks.rs: its functions on the lent buffers. The original is
 //! called as it stands; here its private fields are read and written.
 
-use super::{AVAILABLE_UTXO_BYTES, BlockEntry, BlockTable};
+use super::{AVAILABLE_UTXO_BYTES, BlockEntry, BlockTable, BlockTableError};
 use crate::sizes::by_n;
-use crate::tables::{Block, BlockStatus, Hash, SPARE, Tables};
+use crate::tables::{Block, BlockStatus, Hash, NotInserted, SPARE, Tables};
 
 fn entry(block: Block) -> BlockEntry {
     BlockEntry {
@@ -128,6 +128,21 @@ pub fn insert_at(
     by_n!(t.n(), N => changing::<N, _>(t, |b| b.insert_at(slot, new)))
 }
 
+pub fn insert(
+    t: &mut Tables,
+    hash: Hash,
+    parent: u32,
+    sequence: u32,
+    count: u8,
+    flags: u8,
+) -> Result<u32, NotInserted> {
+    let new = entry(Block { hash, parent, sequence, count, flags });
+    by_n!(t.n(), N => changing::<N, _>(t, |b| b.insert(new))).map_err(|why| match why {
+        BlockTableError::ReservedSequence => NotInserted::ReservedSequence,
+        BlockTableError::Full => NotInserted::Full,
+    })
+}
+
 pub fn delete(t: &mut Tables, slot: u32) -> bool {
     by_n!(t.n(), N => changing::<N, _>(t, |b| b.delete(slot)))
 }
@@ -141,4 +156,8 @@ pub fn delete_all(t: &mut Tables, slots: &[u32]) {
 
 pub fn resolve_parent_ref(t: &mut Tables, slot: u32, parent: u32) {
     by_n!(t.n(), N => changing::<N, _>(t, |b| b.resolve_parent_ref(slot, parent)))
+}
+
+pub fn set_parent_ref(t: &mut Tables, slot: u32, parent: u32) -> bool {
+    by_n!(t.n(), N => changing::<N, _>(t, |b| b.set_parent_ref(slot, parent)))
 }

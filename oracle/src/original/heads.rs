@@ -81,6 +81,31 @@ pub fn first_empty(t: &Tables) -> Option<u32> {
     by_m!(t.m(), M => load_heads::<M>(t).first_empty()).map(number)
 }
 
+/// What the original's iterator gives after the heads in use below a head slot.
+pub fn occupied_heads(t: &Tables, head: u32) -> Vec<(u32, u32)> {
+    by_m!(t.m(), M => {
+        let table = load_heads::<M>(t);
+        let below = table.heads.iter().take(head as usize).filter(|head| !head.is_empty()).count();
+        table.occupied_heads().skip(below).collect()
+    })
+}
+
+pub fn connected_head_at(t: &Tables, head: u32) -> Option<u32> {
+    by_m!(t.m(), M => load_heads::<M>(t).connected_head_at(head as usize))
+}
+
+pub fn stored_head_tail(t: &Tables, head: u32) -> Option<u32> {
+    by_m!(t.m(), M => load_heads::<M>(t).stored_head_tail(head as usize))
+}
+
+pub fn set_missing_parent_hash(t: &mut Tables, head: u32, hash: Hash) {
+    by_m!(t.m(), M => {
+        let mut heads = load_heads::<M>(t);
+        heads.set_missing_parent_hash(head as usize, &hash);
+        store_heads(&heads, t);
+    })
+}
+
 pub fn locate_anchor(t: &Tables, slot: u32) -> Located {
     let anchor =
         by_n!(t.n(), N => ChainHeadsTable::<2>::locate_anchor(&*load_blocks::<N>(t), slot));

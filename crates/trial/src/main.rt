@@ -1,21 +1,22 @@
-// A trial: lines of calls are read from standard input, what they answer is printed, and then the tables that they leave.
-mod calling;
-mod input;
-mod show;
-mod tables;
+// A trial: what is read from standard input is fed to a session, and what it prints is written.
+use trial_session::CHUNK;
+use trial_session::ROOM;
+use trial_session::Trial;
+use trial_session::close;
+use trial_session::feed;
 
-use calling::call;
-use input::Reading;
-use input::line_of;
-use input::take_some;
-use show::show;
-use tables::Trial;
-use tables::after;
-use tables::least;
-use tables::sized;
+fn write_front(out: &[u8], length: usize) {
+    if length <= out.len() {
+        io::write_all(libc::STDOUT_FILENO, &out[0..length]);
+    }
+}
 
-// One slot more than a table may have, so that it is the call that refuses a larger size. Nothing says that the input
-// ends, so the turns are counted down from a number that no run uses up.
+// Writes the first bytes of a buffer to standard output.
+fn say(out: &[u8; ROOM], length: usize) {
+    write_front(out, length);
+}
+
+// Nothing says that the input ends, so the turns are counted down from a number that no run uses up.
 fn main() {
     let mut hashes = [0u8; 32800];
     let mut parents = [0u32; 1025];
@@ -28,47 +29,53 @@ fn main() {
     let mut requested = [0u64; 65];
     let mut arrivals = [0u64; 65];
     let mut connected = [0u8; 65];
-    let mut chunk = [0u8; 4096];
     let mut line = [0u8; 128];
-    let mut trial = Trial::empty();
-    let mut reading = Reading::start();
+    let mut chunk = [0u8; CHUNK];
+    let mut out = [0u8; ROOM];
+    let mut trial = Trial::start();
     let mut turns = u64::MAX;
-    while turns > 0 && reading.more {
+    while turns > 0 {
         turns -= 1;
-        reading = take_some(&mut chunk, &mut line, reading);
-        if reading.whole {
-            let asked_line = line_of(&line, reading.length);
-            let asked = sized(trial, asked_line);
-            let blocks = least(asked.n as usize, 1025);
-            let heads = least(asked.m as usize, 65);
-            let block_bytes = blocks * 32;
-            let head_bytes = heads * 32;
-            let called = call(
-                &mut hashes[..block_bytes],
-                &mut parents[..blocks],
-                &mut sequences[..blocks],
-                &mut counts[..blocks],
-                &mut flags[..blocks],
-                &mut tips[..heads],
-                &mut tails[..heads],
-                &mut missing[..head_bytes],
-                &mut requested[..heads],
-                &mut arrivals[..heads],
-                &mut connected[..heads],
-                asked.active,
-                asked_line,
-            );
-            trial = after(trial, asked, called);
+        let got = libc::read(libc::STDIN_FILENO, &mut chunk);
+        if got <= 0 {
+            break;
         }
+        let n = io::count(got, &chunk);
+        let printed = feed(
+            &mut hashes,
+            &mut parents,
+            &mut sequences,
+            &mut counts,
+            &mut flags,
+            &mut tips,
+            &mut tails,
+            &mut missing,
+            &mut requested,
+            &mut arrivals,
+            &mut connected,
+            &mut line,
+            trial,
+            &chunk[0..n],
+            &mut out,
+        );
+        trial = printed.trial;
+        say(&out, printed.at);
     }
-    show(
-        &parents,
-        &sequences,
-        &counts,
-        &flags,
-        &tips,
-        &tails,
-        &connected,
+    let length = close(
+        &mut hashes,
+        &mut parents,
+        &mut sequences,
+        &mut counts,
+        &mut flags,
+        &mut tips,
+        &mut tails,
+        &mut missing,
+        &mut requested,
+        &mut arrivals,
+        &mut connected,
+        &line,
         trial,
+        &mut out,
     );
+    say(&out, length);
 }

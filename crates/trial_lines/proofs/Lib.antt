@@ -1,4 +1,5 @@
 pub mod Bytes
+pub mod Pieces
 pub mod Places
 pub mod ReadBack
 pub mod Short

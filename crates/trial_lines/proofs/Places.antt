@@ -1,6 +1,6 @@
 -- Text written piece by piece: one piece after the other is both together.
 use mathlib.Core.Path.{_≡_, refl, sym, ap, _∙_}
-use mathlib.Core.List.{List, [], _∷_, _++_}
+use mathlib.Core.List.{List, [], _∷_, _++_, flatten}
 use mathlib.Core.Logic.{_≢_}
 use Prim.Native.Nat.{ℕ, zero, suc, _+_, _-_, _/_, _<_, _≤_, min, max}
 use native.Mathlib.Nat.{add-zero}
@@ -53,10 +53,22 @@ pub put-none : (l : List ℕ) (at : ℕ) → Put l at [] l at
 unfolding place
 put-none l at = (refl, omega arith)
 
--- a line stands at the start
-pub put-line : (l xs m : List ℕ) (r : ℕ) → Put l 0 xs m r → (m ≡ sets l 0 xs) × (r ≡ min (length xs) (length l))
-unfolding place
-put-line l xs m r (e, f) = (e, omega arith)
+-- a place of a function's code, by its type
+abbrev pub the : (A : Type 0) → A → A
+the A a = a
+
+-- ---- a line, piece by piece
+
+pub data Puts : List ℕ → ℕ → List (List ℕ) → List ℕ → ℕ → Type 0 where
+  end : {l : List ℕ} {at : ℕ} → Puts l at [] l at
+  then : {l m o : List ℕ} {at r s : ℕ} {piece : List ℕ} {pieces : List (List ℕ)}
+      → Put l at piece m r → Puts m r pieces o s → Puts l at (piece ∷ pieces) o s
+
+pub puts-put : (l m : List ℕ) (at r : ℕ) (pieces : List (List ℕ)) → Puts l at pieces m r → Put l at (flatten pieces) m r
+unfolding flatten
+puts-put l m at r [] end = put-none l at
+puts-put l o at s (piece ∷ pieces) (then {m = m} {r = r} e p) =
+    put-then l m o piece (flatten pieces) at r s e (puts-put m o r s pieces p)
 
 -- ---- digits, the last one apart
 

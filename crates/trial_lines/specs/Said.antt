@@ -1,45 +1,18 @@
--- What each answer prints (01, "One trial whole"): E is 69, A 65, P 80, D 68, R 82.
+-- What an answer prints (01, "One trial whole"): E and a refusal, or the call's letter and what it returned: A is 65, D 68, E 69. P
+-- prints the slot of its line and R and N none, so what a call that is just done prints is given.
 use mathlib.Core.List.{List, []}
 use Prim.Native.Nat.{ℕ}
 use lib.ListN.{getD}
-use Rattle.rules.specs.Answers.{refusalNumber}
-use Rattle.rules.specs.declared.Refusal.{Refusal}
-use Rattle.rules.specs.declared.Outcome.{Outcome}
-use Rattle.rules.specs.declared.Outcome.the-variants as outcome
-use Rattle.rules.specs.declared.Admitted.{Admitted}
-use Rattle.rules.specs.declared.Admitted.the-variants as admitted
-use Rattle.rules.specs.declared.Removed.{Removed}
-use Rattle.rules.specs.declared.Removed.the-variants as removed
-use Rattle.rules.specs.declared.Timed.{Timed}
-use Rattle.rules.specs.declared.Timed.the-variants as timed
-use Rattle.trial_lines.specs.Writing.{letterLine, numberLine, requestLine, noneDueLine}
+use Rattle.rules.specs.Answers.{Answer, refused, done, slot, freed, request, noneDue, dueAt, neverDue}
+use Rattle.trial_lines.specs.Writing.{numberLine, requestLine, noneDueLine}
 
-abbrev pub refusalSaid : Refusal → List ℕ
-refusalSaid why = numberLine 69 (refusalNumber why)
-
--- N prints nothing unless refused
-abbrev pub freshSaid : Outcome → List ℕ
-freshSaid outcome.Done = []
-freshSaid (outcome.Refused why) = refusalSaid why
-
-abbrev pub admitSaid : Admitted → List ℕ
-admitSaid (admitted.Slot slot) = numberLine 65 (slot .0)
-admitSaid (admitted.Refused why) = refusalSaid why
-
-abbrev pub promoteSaid : Outcome → (slot : ℕ) → List ℕ
-promoteSaid outcome.Done slot = numberLine 80 slot
-promoteSaid (outcome.Refused why) slot = refusalSaid why
-
-abbrev pub removeSaid : Removed → List ℕ
-removeSaid (removed.Freed blocks) = numberLine 68 blocks
-removeSaid (removed.Refused why) = refusalSaid why
-
--- a hash is one byte 32 times, so its first says all
-abbrev pub timerSaid : Timed → (missing : List ℕ) → List ℕ
-timerSaid (timed.Request head claimed) missing = requestLine (head .0) (claimed .0) (getD missing 0 0)
-timerSaid timed.NoneDue missing = noneDueLine
-timerSaid (timed.Refused why) missing = refusalSaid why
-
-abbrev pub restartSaid : Outcome → List ℕ
-restartSaid outcome.Done = letterLine 82
-restartSaid (outcome.Refused why) = refusalSaid why
+-- a hash is one byte 32 times, so its first says all; no line asks for a deadline
+abbrev pub said : (whenDone : List ℕ) → Answer → List ℕ
+said whenDone (refused number) = numberLine 69 number
+said whenDone done = whenDone
+said whenDone (slot new) = numberLine 65 new
+said whenDone (freed blocks) = numberLine 68 blocks
+said whenDone (request head claimed missing) = requestLine head claimed (getD missing 0 0)
+said whenDone noneDue = noneDueLine
+said whenDone (dueAt time) = []
+said whenDone neverDue = []

@@ -1,9 +1,11 @@
 // The line that a call's answer prints: the call's letter and what it returned, or `E` and the refusal's number.
 ghost use mathlib.Core.Path.{_≡_};
-ghost use Prim.Native.Nat.{min};
+ghost use mathlib.Core.List.{[]};
 ghost use lib.ListN.{length};
 ghost use lib.Seq.{sets};
-ghost use Rattle.trial_lines.specs.Said.{freshSaid, admitSaid, promoteSaid, removeSaid, timerSaid, restartSaid};
+ghost use Rattle.rules.specs.Answers.{outcomeSaid, admittedSaid, removedSaid, timedSaid};
+ghost use Rattle.trial_lines.specs.Writing.{place, letterLine, numberLine};
+ghost use Rattle.trial_lines.specs.Said.{said};
 use crate::lines::letter_line;
 use crate::lines::none_due_line;
 use crate::lines::number_line;
@@ -17,64 +19,64 @@ use rules::Removed;
 use rules::Timed;
 
 // Fresh prints a refusal alone.
-pub fn fresh_line(out: &mut [u8], answer: Outcome) -> usize
-    ensures { λ r. ⌜ (now (out .exit) ≡ sets (now (out .entry)) 0 (freshSaid answer))
-        × (r ≡ min (length (freshSaid answer)) (length (now (out .entry)))) ⌝ }
+pub fn fresh_line(out: &mut [u8], at: usize, answer: Outcome) -> usize
+    ensures { λ r. ⌜ (now (out .exit) ≡ sets (now (out .entry)) at (said [] (outcomeSaid answer)))
+        × (r ≡ place (length (now (out .entry))) at (length (said [] (outcomeSaid answer)))) ⌝ }
 {
     match answer {
-        Outcome::Done => 0,
-        Outcome::Refused(why) => number_line(out, b'E', refusal_number(why)),
+        Outcome::Done => at,
+        Outcome::Refused(why) => number_line(out, at, b'E', refusal_number(why)),
     }
 }
 
-pub fn admit_line(out: &mut [u8], answer: Admitted) -> usize
-    ensures { λ r. ⌜ (now (out .exit) ≡ sets (now (out .entry)) 0 (admitSaid answer))
-        × (r ≡ min (length (admitSaid answer)) (length (now (out .entry)))) ⌝ }
+pub fn admit_line(out: &mut [u8], at: usize, answer: Admitted) -> usize
+    ensures { λ r. ⌜ (now (out .exit) ≡ sets (now (out .entry)) at (said [] (admittedSaid answer)))
+        × (r ≡ place (length (now (out .entry))) at (length (said [] (admittedSaid answer)))) ⌝ }
 {
     match answer {
-        Admitted::Slot(slot) => number_line(out, b'A', slot.0),
-        Admitted::Refused(why) => number_line(out, b'E', refusal_number(why)),
+        Admitted::Slot(slot) => number_line(out, at, b'A', slot.0),
+        Admitted::Refused(why) => number_line(out, at, b'E', refusal_number(why)),
     }
 }
 
-pub fn promote_line(out: &mut [u8], answer: Outcome, slot: BlockSlot) -> usize
-    ensures { λ r. ⌜ (now (out .exit) ≡ sets (now (out .entry)) 0 (promoteSaid answer (slot .0)))
-        × (r ≡ min (length (promoteSaid answer (slot .0))) (length (now (out .entry)))) ⌝ }
+pub fn promote_line(out: &mut [u8], at: usize, answer: Outcome, slot: BlockSlot) -> usize
+    ensures { λ r. ⌜ (now (out .exit) ≡ sets (now (out .entry)) at (said (numberLine 80 (slot .0)) (outcomeSaid answer)))
+        × (r ≡ place (length (now (out .entry))) at (length (said (numberLine 80 (slot .0)) (outcomeSaid answer)))) ⌝ }
 {
     match answer {
-        Outcome::Done => number_line(out, b'P', slot.0),
-        Outcome::Refused(why) => number_line(out, b'E', refusal_number(why)),
+        Outcome::Done => number_line(out, at, b'P', slot.0),
+        Outcome::Refused(why) => number_line(out, at, b'E', refusal_number(why)),
     }
 }
 
-pub fn remove_line(out: &mut [u8], answer: Removed) -> usize
-    ensures { λ r. ⌜ (now (out .exit) ≡ sets (now (out .entry)) 0 (removeSaid answer))
-        × (r ≡ min (length (removeSaid answer)) (length (now (out .entry)))) ⌝ }
+pub fn remove_line(out: &mut [u8], at: usize, answer: Removed) -> usize
+    ensures { λ r. ⌜ (now (out .exit) ≡ sets (now (out .entry)) at (said [] (removedSaid answer)))
+        × (r ≡ place (length (now (out .entry))) at (length (said [] (removedSaid answer)))) ⌝ }
 {
     match answer {
-        Removed::Freed(blocks) => number_line(out, b'D', blocks),
-        Removed::Refused(why) => number_line(out, b'E', refusal_number(why)),
+        Removed::Freed(blocks) => number_line(out, at, b'D', blocks),
+        Removed::Refused(why) => number_line(out, at, b'E', refusal_number(why)),
     }
 }
 
 // A hash is shown by its first byte.
-pub fn timer_line(out: &mut [u8], answer: Timed, missing: [u8; 32]) -> usize
-    ensures { λ r. ⌜ (now (out .exit) ≡ sets (now (out .entry)) 0 (timerSaid answer missing))
-        × (r ≡ min (length (timerSaid answer missing)) (length (now (out .entry)))) ⌝ }
+pub fn timer_line(out: &mut [u8], at: usize, answer: Timed, missing: [u8; 32]) -> usize
+    ensures { λ r. ⌜ (now (out .exit) ≡ sets (now (out .entry)) at (said [] (timedSaid answer missing)))
+        × (r ≡ place (length (now (out .entry))) at (length (said [] (timedSaid answer missing)))) ⌝ }
 {
     match answer {
-        Timed::Request(head, claimed) => request_line(out, head, claimed, missing[0]),
-        Timed::NoneDue => none_due_line(out),
-        Timed::Refused(why) => number_line(out, b'E', refusal_number(why)),
+        Timed::Request(head, claimed) => request_line(out, at, head, claimed, missing[0]),
+        Timed::NoneDue => none_due_line(out, at),
+        Timed::Refused(why) => number_line(out, at, b'E', refusal_number(why)),
     }
 }
 
-pub fn restart_line(out: &mut [u8], answer: Outcome) -> usize
-    ensures { λ r. ⌜ (now (out .exit) ≡ sets (now (out .entry)) 0 (restartSaid answer))
-        × (r ≡ min (length (restartSaid answer)) (length (now (out .entry)))) ⌝ }
+pub fn restart_line(out: &mut [u8], at: usize, answer: Outcome) -> usize
+    ensures { λ r. ⌜ (now (out .exit) ≡ sets (now (out .entry)) at (said (letterLine 82) (outcomeSaid answer)))
+        × (r ≡ place (length (now (out .entry))) at (length (said (letterLine 82) (outcomeSaid answer)))) ⌝ }
 {
     match answer {
-        Outcome::Done => letter_line(out, b'R'),
-        Outcome::Refused(why) => number_line(out, b'E', refusal_number(why)),
+        Outcome::Done => letter_line(out, at, b'R'),
+        Outcome::Refused(why) => number_line(out, at, b'E', refusal_number(why)),
     }
 }

@@ -1,11 +1,9 @@
-// Lines of output, each with its end, from the start of a lent buffer. What is returned is the line's length, as much
-// of it as the buffer has.
+// Lines of output, each with its end, from a place of a lent buffer on. What is returned is the place after it.
 ghost use mathlib.Core.Path.{_≡_};
-ghost use Prim.Native.Nat.{min};
 ghost use lib.ListN.{length};
 ghost use lib.Seq.{sets};
 ghost use Rattle.rules.specs.Common.{if_then_else_};
-ghost use Rattle.trial_lines.specs.Writing.{numberLine, requestLine, noneDueLine, letterLine, blockLine, headLine};
+ghost use Rattle.trial_lines.specs.Writing.{place, numberLine, requestLine, noneDueLine, letterLine, blockLine, headLine};
 use crate::text::put;
 use crate::text::put_field;
 use crate::text::put_hex;
@@ -21,30 +19,30 @@ fn pick(test: bool, yes: u8, no: u8) -> u8
 }
 
 // A letter and a number: an answer or a refusal.
-pub fn number_line(out: &mut [u8], letter: u8, n: u32) -> usize
-    ensures { λ r. ⌜ (now (out .exit) ≡ sets (now (out .entry)) 0 (numberLine letter n))
-        × (r ≡ min (length (numberLine letter n)) (length (now (out .entry)))) ⌝ }
+pub fn number_line(out: &mut [u8], at: usize, letter: u8, n: u32) -> usize
+    ensures { λ r. ⌜ (now (out .exit) ≡ sets (now (out .entry)) at (numberLine letter n))
+        × (r ≡ place (length (now (out .entry))) at (length (numberLine letter n))) ⌝ }
 {
-    let a = put(out, 0, letter);
+    let a = put(out, at, letter);
     let b = put_field(out, a, n);
     put(out, b, b'\n')
 }
 
 // A letter alone: `R`, and `?` for an unread line.
-pub fn letter_line(out: &mut [u8], letter: u8) -> usize
-    ensures { λ r. ⌜ (now (out .exit) ≡ sets (now (out .entry)) 0 (letterLine letter))
-        × (r ≡ min (length (letterLine letter)) (length (now (out .entry)))) ⌝ }
+pub fn letter_line(out: &mut [u8], at: usize, letter: u8) -> usize
+    ensures { λ r. ⌜ (now (out .exit) ≡ sets (now (out .entry)) at (letterLine letter))
+        × (r ≡ place (length (now (out .entry))) at (length (letterLine letter))) ⌝ }
 {
-    let a = put(out, 0, letter);
+    let a = put(out, at, letter);
     put(out, a, b'\n')
 }
 
 // A timer's request: the head, the claimed sequence, and the hash by its byte.
-pub fn request_line(out: &mut [u8], head: HeadSlot, claimed: Sequence, hash: u8) -> usize
-    ensures { λ r. ⌜ (now (out .exit) ≡ sets (now (out .entry)) 0 (requestLine (head .0) (claimed .0) hash))
-        × (r ≡ min (length (requestLine (head .0) (claimed .0) hash)) (length (now (out .entry)))) ⌝ }
+pub fn request_line(out: &mut [u8], at: usize, head: HeadSlot, claimed: Sequence, hash: u8) -> usize
+    ensures { λ r. ⌜ (now (out .exit) ≡ sets (now (out .entry)) at (requestLine (head .0) (claimed .0) hash))
+        × (r ≡ place (length (now (out .entry))) at (length (requestLine (head .0) (claimed .0) hash))) ⌝ }
 {
-    let a = put(out, 0, b'T');
+    let a = put(out, at, b'T');
     let b = put_field(out, a, head.0);
     let c = put_field(out, b, claimed.0);
     let d = put(out, c, b' ');
@@ -52,11 +50,11 @@ pub fn request_line(out: &mut [u8], head: HeadSlot, claimed: Sequence, hash: u8)
     put(out, e, b'\n')
 }
 
-pub fn none_due_line(out: &mut [u8]) -> usize
-    ensures { λ r. ⌜ (now (out .exit) ≡ sets (now (out .entry)) 0 noneDueLine)
-        × (r ≡ min (length noneDueLine) (length (now (out .entry)))) ⌝ }
+pub fn none_due_line(out: &mut [u8], at: usize) -> usize
+    ensures { λ r. ⌜ (now (out .exit) ≡ sets (now (out .entry)) at noneDueLine)
+        × (r ≡ place (length (now (out .entry))) at (length noneDueLine)) ⌝ }
 {
-    let a = put(out, 0, b'T');
+    let a = put(out, at, b'T');
     let b = put(out, a, b' ');
     let c = put(out, b, b'-');
     put(out, c, b'\n')
@@ -64,16 +62,17 @@ pub fn none_due_line(out: &mut [u8]) -> usize
 
 pub fn block_line(
     out: &mut [u8],
+    at: usize,
     slot: BlockSlot,
     sequence: Sequence,
     parent: BlockSlot,
     count: u8,
     active: bool,
 ) -> usize
-    ensures { λ r. ⌜ (now (out .exit) ≡ sets (now (out .entry)) 0 (blockLine (slot .0) (sequence .0) (parent .0) count active))
-        × (r ≡ min (length (blockLine (slot .0) (sequence .0) (parent .0) count active)) (length (now (out .entry)))) ⌝ }
+    ensures { λ r. ⌜ (now (out .exit) ≡ sets (now (out .entry)) at (blockLine (slot .0) (sequence .0) (parent .0) count active))
+        × (r ≡ place (length (now (out .entry))) at (length (blockLine (slot .0) (sequence .0) (parent .0) count active))) ⌝ }
 {
-    let a = put(out, 0, b'B');
+    let a = put(out, at, b'B');
     let b = put_field(out, a, slot.0);
     let c = put_field(out, b, sequence.0);
     let d = put_reference(out, c, parent);
@@ -85,15 +84,16 @@ pub fn block_line(
 
 pub fn head_line(
     out: &mut [u8],
+    at: usize,
     slot: HeadSlot,
     tip: BlockSlot,
     connected: bool,
     anchor: BlockSlot,
 ) -> usize
-    ensures { λ r. ⌜ (now (out .exit) ≡ sets (now (out .entry)) 0 (headLine (slot .0) (tip .0) connected (anchor .0)))
-        × (r ≡ min (length (headLine (slot .0) (tip .0) connected (anchor .0))) (length (now (out .entry)))) ⌝ }
+    ensures { λ r. ⌜ (now (out .exit) ≡ sets (now (out .entry)) at (headLine (slot .0) (tip .0) connected (anchor .0)))
+        × (r ≡ place (length (now (out .entry))) at (length (headLine (slot .0) (tip .0) connected (anchor .0)))) ⌝ }
 {
-    let a = put(out, 0, b'H');
+    let a = put(out, at, b'H');
     let b = put_field(out, a, slot.0);
     let c = put_reference(out, b, tip);
     let d = put(out, c, b' ');

@@ -76,7 +76,7 @@ pub fn put_reference(out: &mut [u8], at: usize, slot: BlockSlot) -> usize
     ensures { λ r. ⌜ (now (out .exit) ≡ sets (now (out .entry)) at (reference (slot .0)))
         × (r ≡ place (length (now (out .entry))) at (length (reference (slot .0)))) ⌝ }
 {
-    if slot.0 == BlockSlot::NONE_REF {
+    if slot.0 == BlockSlot::NONE_REF.0 {
         let next = put(out, at, b' ');
         return put(out, next, b'-');
     }

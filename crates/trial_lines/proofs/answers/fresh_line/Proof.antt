@@ -1,6 +1,5 @@
 -- By the answer.
-use native.Mathlib.Omega.{arith}
-use mathlib.Core.Path.{refl}
+use Rattle.trial_lines.proofs.Places.{put-none}
 use borrow.Author.Needs.{needs}
 use Rattle.trial_lines.proofs.answers.fresh_line.Statement.{statement}
 use Rattle.trial_lines.proofs.answers.fresh_line.Tie as tie
@@ -18,7 +17,7 @@ number-line-requires : tie.Need-number-line-requires
 number-line-requires c κs = tt
 
 returns : tie.Need-returns
-returns c = rw (c .enum-told .given .1) ((refl, omega arith))
+returns c = rw (c .enum-told .given .1) (put-none _ _)
 
 same-length : tie.Need-same-length
 same-length c = search needs

@@ -1,8 +1,6 @@
 -- Piece by piece.
-use mathlib.Core.List.{[], _∷_, _++_}
-use Rattle.trial_lines.specs.Writing.{headLine, field, reference}
-use Rattle.rules.specs.Common.{if_then_else_}
-use Rattle.trial_lines.proofs.Places.{put-line, put-then}
+use Rattle.trial_lines.proofs.Places.{end, then, the}
+use Rattle.trial_lines.proofs.Pieces.{head-pieces}
 use borrow.Author.Needs.{needs}
 use Rattle.trial_lines.proofs.lines.head_line.Statement.{statement}
 use Rattle.trial_lines.proofs.lines.head_line.Tie as tie
@@ -35,16 +33,16 @@ same-length : tie.Need-same-length
 same-length c = search needs
 
 returns : tie.Need-returns
-unfolding headLine
 returns c =
-    let a = c .before .before .before .before .before .before .before .before .before .before .before .before .before .before .before .before .before .before .before .before .before .before .before .before .before .before .before .before .before .before .args in
-    put-line (a .out .now) (headLine (a .slot .0) (a .tip .0) (a .connected) (a .anchor .0)) (c .before .before .put4 .last .0) (c .before .before .put4 .result)
-    (put-then (a .out .now) (c .before .before .before .before .before .before .before .before .before .before .before .before .before .before .before .before .before .before .before .before .before .before .before .before .before .before .before .put .last .0) (c .before .before .put4 .last .0) (72 ∷ []) ((field (a .slot .0)) ++ ((reference (a .tip .0)) ++ ((32 ∷ []) ++ (((if a .connected then 67 else 83) ∷ []) ++ ((reference (a .anchor .0)) ++ (10 ∷ [])))))) 0 (c .before .before .before .before .before .before .before .before .before .before .before .before .before .before .before .before .before .before .before .before .before .before .before .before .before .before .before .put .result) (c .before .before .put4 .result) (c .before .before .before .before .before .before .before .before .before .before .before .before .before .before .before .before .before .before .before .before .before .before .before .before .before .before .before .put .ensures)
-    (put-then (c .before .before .before .before .before .before .before .before .before .before .before .before .before .before .before .before .before .before .before .before .before .before .before .before .before .before .before .put .last .0) (c .before .before .before .before .before .before .before .before .before .before .before .before .before .before .before .before .before .before .before .before .before .before .before .put-field .last .0) (c .before .before .put4 .last .0) (field (a .slot .0)) ((reference (a .tip .0)) ++ ((32 ∷ []) ++ (((if a .connected then 67 else 83) ∷ []) ++ ((reference (a .anchor .0)) ++ (10 ∷ []))))) (c .before .before .before .before .before .before .before .before .before .before .before .before .before .before .before .before .before .before .before .before .before .before .before .before .before .before .before .put .result) (c .before .before .before .before .before .before .before .before .before .before .before .before .before .before .before .before .before .before .before .before .before .before .before .put-field .result) (c .before .before .put4 .result) (c .before .before .before .before .before .before .before .before .before .before .before .before .before .before .before .before .before .before .before .before .before .before .before .put-field .ensures)
-    (put-then (c .before .before .before .before .before .before .before .before .before .before .before .before .before .before .before .before .before .before .before .before .before .before .before .put-field .last .0) (c .before .before .before .before .before .before .before .before .before .before .before .before .before .before .before .before .before .before .before .put-reference .last .0) (c .before .before .put4 .last .0) (reference (a .tip .0)) ((32 ∷ []) ++ (((if a .connected then 67 else 83) ∷ []) ++ ((reference (a .anchor .0)) ++ (10 ∷ [])))) (c .before .before .before .before .before .before .before .before .before .before .before .before .before .before .before .before .before .before .before .before .before .before .before .put-field .result) (c .before .before .before .before .before .before .before .before .before .before .before .before .before .before .before .before .before .before .before .put-reference .result) (c .before .before .put4 .result) (c .before .before .before .before .before .before .before .before .before .before .before .before .before .before .before .before .before .before .before .put-reference .ensures)
-    (put-then (c .before .before .before .before .before .before .before .before .before .before .before .before .before .before .before .before .before .before .before .put-reference .last .0) (c .before .before .before .before .before .before .before .before .before .before .before .before .before .before .before .put2 .last .0) (c .before .before .put4 .last .0) (32 ∷ []) (((if a .connected then 67 else 83) ∷ []) ++ ((reference (a .anchor .0)) ++ (10 ∷ []))) (c .before .before .before .before .before .before .before .before .before .before .before .before .before .before .before .before .before .before .before .put-reference .result) (c .before .before .before .before .before .before .before .before .before .before .before .before .before .before .before .put2 .result) (c .before .before .put4 .result) (c .before .before .before .before .before .before .before .before .before .before .before .before .before .before .before .put2 .ensures)
-    (put-then (c .before .before .before .before .before .before .before .before .before .before .before .before .before .before .before .put2 .last .0) (c .before .before .before .before .before .before .before .before .before .before .put3 .last .0) (c .before .before .put4 .last .0) ((if a .connected then 67 else 83) ∷ []) ((reference (a .anchor .0)) ++ (10 ∷ [])) (c .before .before .before .before .before .before .before .before .before .before .before .before .before .before .before .put2 .result) (c .before .before .before .before .before .before .before .before .before .before .put3 .result) (c .before .before .put4 .result) (rw (c .before .before .before .before .before .before .before .before .before .before .before .pick .ensures) at (c .before .before .before .before .before .before .before .before .before .before .put3 .ensures))
-    (put-then (c .before .before .before .before .before .before .before .before .before .before .put3 .last .0) (c .before .before .before .before .before .before .put-reference2 .last .0) (c .before .before .put4 .last .0) (reference (a .anchor .0)) (10 ∷ []) (c .before .before .before .before .before .before .before .before .before .before .put3 .result) (c .before .before .before .before .before .before .put-reference2 .result) (c .before .before .put4 .result) (c .before .before .before .before .before .before .put-reference2 .ensures) (c .before .before .put4 .ensures)))))))
+    head-pieces _ _ _ _ _ _ _ _ _
+    (then (the tie.After-put (search) .put .ensures)
+    (then (the tie.After-put-field (search) .put-field .ensures)
+    (then (the tie.After-put-reference (search) .put-reference .ensures)
+    (then (the tie.After-put2 (search) .put2 .ensures)
+    (then (the tie.After-put3 (search) .put3 .ensures)
+    (then (the tie.After-put-reference2 (search) .put-reference2 .ensures)
+    (then (the tie.After-put4 (search) .put4 .ensures) end)))))))
+    (the tie.After-pick (search) .pick .ensures)
 
 pub head-line-spec : {M : Type 1} → statement M
 head-line-spec =

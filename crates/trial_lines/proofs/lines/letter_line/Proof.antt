@@ -1,7 +1,6 @@
 -- Piece by piece.
-use mathlib.Core.List.{[], _∷_}
-use Rattle.trial_lines.specs.Writing.{letterLine}
-use Rattle.trial_lines.proofs.Places.{put-line, put-then}
+use Rattle.trial_lines.proofs.Places.{end, then, the}
+use Rattle.trial_lines.proofs.Pieces.{letter-pieces}
 use borrow.Author.Needs.{needs}
 use Rattle.trial_lines.proofs.lines.letter_line.Statement.{statement}
 use Rattle.trial_lines.proofs.lines.letter_line.Tie as tie
@@ -16,11 +15,10 @@ same-length : tie.Need-same-length
 same-length c = search needs
 
 returns : tie.Need-returns
-unfolding letterLine
 returns c =
-    let a = c .before .before .before .before .before .before .before .before .before .args in
-    put-line (a .out .now) (letterLine (a .letter)) (c .before .before .put2 .last .0) (c .before .before .put2 .result)
-    (put-then (a .out .now) (c .before .before .before .before .before .before .put .last .0) (c .before .before .put2 .last .0) (a .letter ∷ []) (10 ∷ []) 0 (c .before .before .before .before .before .before .put .result) (c .before .before .put2 .result) (c .before .before .before .before .before .before .put .ensures) (c .before .before .put2 .ensures))
+    letter-pieces _ _ _ _ _
+    (then (the tie.After-put (search) .put .ensures)
+    (then (the tie.After-put2 (search) .put2 .ensures) end))
 
 pub letter-line-spec : {M : Type 1} → statement M
 letter-line-spec = tie.close (tie.spec put-requires put-requires-2 same-length returns)

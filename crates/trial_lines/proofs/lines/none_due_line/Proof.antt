@@ -1,7 +1,6 @@
 -- Piece by piece.
-use mathlib.Core.List.{[], _∷_, _++_}
-use Rattle.trial_lines.specs.Writing.{noneDueLine}
-use Rattle.trial_lines.proofs.Places.{put-line, put-then}
+use Rattle.trial_lines.proofs.Places.{end, then, the}
+use Rattle.trial_lines.proofs.Pieces.{none-due-pieces}
 use borrow.Author.Needs.{needs}
 use Rattle.trial_lines.proofs.lines.none_due_line.Statement.{statement}
 use Rattle.trial_lines.proofs.lines.none_due_line.Tie as tie
@@ -22,13 +21,12 @@ same-length : tie.Need-same-length
 same-length c = search needs
 
 returns : tie.Need-returns
-unfolding noneDueLine
 returns c =
-    let a = c .before .before .before .before .before .before .before .before .before .before .before .before .before .before .before .before .before .args in
-    put-line (a .out .now) noneDueLine (c .before .before .put4 .last .0) (c .before .before .put4 .result)
-    (put-then (a .out .now) (c .before .before .before .before .before .before .before .before .before .before .before .before .before .before .put .last .0) (c .before .before .put4 .last .0) (84 ∷ []) ((32 ∷ []) ++ ((45 ∷ []) ++ (10 ∷ []))) 0 (c .before .before .before .before .before .before .before .before .before .before .before .before .before .before .put .result) (c .before .before .put4 .result) (c .before .before .before .before .before .before .before .before .before .before .before .before .before .before .put .ensures)
-    (put-then (c .before .before .before .before .before .before .before .before .before .before .before .before .before .before .put .last .0) (c .before .before .before .before .before .before .before .before .before .before .put2 .last .0) (c .before .before .put4 .last .0) (32 ∷ []) ((45 ∷ []) ++ (10 ∷ [])) (c .before .before .before .before .before .before .before .before .before .before .before .before .before .before .put .result) (c .before .before .before .before .before .before .before .before .before .before .put2 .result) (c .before .before .put4 .result) (c .before .before .before .before .before .before .before .before .before .before .put2 .ensures)
-    (put-then (c .before .before .before .before .before .before .before .before .before .before .put2 .last .0) (c .before .before .before .before .before .before .put3 .last .0) (c .before .before .put4 .last .0) (45 ∷ []) (10 ∷ []) (c .before .before .before .before .before .before .before .before .before .before .put2 .result) (c .before .before .before .before .before .before .put3 .result) (c .before .before .put4 .result) (c .before .before .before .before .before .before .put3 .ensures) (c .before .before .put4 .ensures))))
+    none-due-pieces _ _ _ _
+    (then (the tie.After-put (search) .put .ensures)
+    (then (the tie.After-put2 (search) .put2 .ensures)
+    (then (the tie.After-put3 (search) .put3 .ensures)
+    (then (the tie.After-put4 (search) .put4 .ensures) end))))
 
 pub none-due-line-spec : {M : Type 1} → statement M
 none-due-line-spec =

@@ -1,7 +1,6 @@
 -- Piece by piece.
-use mathlib.Core.List.{[], _∷_, _++_}
-use Rattle.trial_lines.specs.Writing.{numberLine, field}
-use Rattle.trial_lines.proofs.Places.{put-line, put-then}
+use Rattle.trial_lines.proofs.Places.{end, then, the}
+use Rattle.trial_lines.proofs.Pieces.{number-pieces}
 use borrow.Author.Needs.{needs}
 use Rattle.trial_lines.proofs.lines.number_line.Statement.{statement}
 use Rattle.trial_lines.proofs.lines.number_line.Tie as tie
@@ -19,12 +18,11 @@ same-length : tie.Need-same-length
 same-length c = search needs
 
 returns : tie.Need-returns
-unfolding numberLine
 returns c =
-    let a = c .before .before .before .before .before .before .before .before .before .before .before .before .before .args in
-    put-line (a .out .now) (numberLine (a .letter) (a .n)) (c .before .before .put2 .last .0) (c .before .before .put2 .result)
-    (put-then (a .out .now) (c .before .before .before .before .before .before .before .before .before .before .put .last .0) (c .before .before .put2 .last .0) (a .letter ∷ []) ((field (a .n)) ++ (10 ∷ [])) 0 (c .before .before .before .before .before .before .before .before .before .before .put .result) (c .before .before .put2 .result) (c .before .before .before .before .before .before .before .before .before .before .put .ensures)
-    (put-then (c .before .before .before .before .before .before .before .before .before .before .put .last .0) (c .before .before .before .before .before .before .put-field .last .0) (c .before .before .put2 .last .0) (field (a .n)) (10 ∷ []) (c .before .before .before .before .before .before .before .before .before .before .put .result) (c .before .before .before .before .before .before .put-field .result) (c .before .before .put2 .result) (c .before .before .before .before .before .before .put-field .ensures) (c .before .before .put2 .ensures)))
+    number-pieces _ _ _ _ _ _
+    (then (the tie.After-put (search) .put .ensures)
+    (then (the tie.After-put-field (search) .put-field .ensures)
+    (then (the tie.After-put2 (search) .put2 .ensures) end)))
 
 pub number-line-spec : {M : Type 1} → statement M
 number-line-spec =

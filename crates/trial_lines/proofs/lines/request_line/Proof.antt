@@ -1,7 +1,6 @@
 -- Piece by piece.
-use mathlib.Core.List.{[], _∷_, _++_}
-use Rattle.trial_lines.specs.Writing.{requestLine, field, hex}
-use Rattle.trial_lines.proofs.Places.{put-line, put-then}
+use Rattle.trial_lines.proofs.Places.{end, then, the}
+use Rattle.trial_lines.proofs.Pieces.{request-pieces}
 use borrow.Author.Needs.{needs}
 use Rattle.trial_lines.proofs.lines.request_line.Statement.{statement}
 use Rattle.trial_lines.proofs.lines.request_line.Tie as tie
@@ -28,15 +27,14 @@ same-length : tie.Need-same-length
 same-length c = search needs
 
 returns : tie.Need-returns
-unfolding requestLine
 returns c =
-    let a = c .before .before .before .before .before .before .before .before .before .before .before .before .before .before .before .before .before .before .before .before .before .before .before .before .before .args in
-    put-line (a .out .now) (requestLine (a .head .0) (a .claimed .0) (a .hash)) (c .before .before .put3 .last .0) (c .before .before .put3 .result)
-    (put-then (a .out .now) (c .before .before .before .before .before .before .before .before .before .before .before .before .before .before .before .before .before .before .before .before .before .before .put .last .0) (c .before .before .put3 .last .0) (84 ∷ []) ((field (a .head .0)) ++ ((field (a .claimed .0)) ++ ((32 ∷ []) ++ ((hex (a .hash)) ++ (10 ∷ []))))) 0 (c .before .before .before .before .before .before .before .before .before .before .before .before .before .before .before .before .before .before .before .before .before .before .put .result) (c .before .before .put3 .result) (c .before .before .before .before .before .before .before .before .before .before .before .before .before .before .before .before .before .before .before .before .before .before .put .ensures)
-    (put-then (c .before .before .before .before .before .before .before .before .before .before .before .before .before .before .before .before .before .before .before .before .before .before .put .last .0) (c .before .before .before .before .before .before .before .before .before .before .before .before .before .before .before .before .before .before .put-field .last .0) (c .before .before .put3 .last .0) (field (a .head .0)) ((field (a .claimed .0)) ++ ((32 ∷ []) ++ ((hex (a .hash)) ++ (10 ∷ [])))) (c .before .before .before .before .before .before .before .before .before .before .before .before .before .before .before .before .before .before .before .before .before .before .put .result) (c .before .before .before .before .before .before .before .before .before .before .before .before .before .before .before .before .before .before .put-field .result) (c .before .before .put3 .result) (c .before .before .before .before .before .before .before .before .before .before .before .before .before .before .before .before .before .before .put-field .ensures)
-    (put-then (c .before .before .before .before .before .before .before .before .before .before .before .before .before .before .before .before .before .before .put-field .last .0) (c .before .before .before .before .before .before .before .before .before .before .before .before .before .before .put-field2 .last .0) (c .before .before .put3 .last .0) (field (a .claimed .0)) ((32 ∷ []) ++ ((hex (a .hash)) ++ (10 ∷ []))) (c .before .before .before .before .before .before .before .before .before .before .before .before .before .before .before .before .before .before .put-field .result) (c .before .before .before .before .before .before .before .before .before .before .before .before .before .before .put-field2 .result) (c .before .before .put3 .result) (c .before .before .before .before .before .before .before .before .before .before .before .before .before .before .put-field2 .ensures)
-    (put-then (c .before .before .before .before .before .before .before .before .before .before .before .before .before .before .put-field2 .last .0) (c .before .before .before .before .before .before .before .before .before .before .put2 .last .0) (c .before .before .put3 .last .0) (32 ∷ []) ((hex (a .hash)) ++ (10 ∷ [])) (c .before .before .before .before .before .before .before .before .before .before .before .before .before .before .put-field2 .result) (c .before .before .before .before .before .before .before .before .before .before .put2 .result) (c .before .before .put3 .result) (c .before .before .before .before .before .before .before .before .before .before .put2 .ensures)
-    (put-then (c .before .before .before .before .before .before .before .before .before .before .put2 .last .0) (c .before .before .before .before .before .before .put-hex .last .0) (c .before .before .put3 .last .0) (hex (a .hash)) (10 ∷ []) (c .before .before .before .before .before .before .before .before .before .before .put2 .result) (c .before .before .before .before .before .before .put-hex .result) (c .before .before .put3 .result) (c .before .before .before .before .before .before .put-hex .ensures) (c .before .before .put3 .ensures))))))
+    request-pieces _ _ _ _ _ _ _
+    (then (the tie.After-put (search) .put .ensures)
+    (then (the tie.After-put-field (search) .put-field .ensures)
+    (then (the tie.After-put-field2 (search) .put-field2 .ensures)
+    (then (the tie.After-put2 (search) .put2 .ensures)
+    (then (the tie.After-put-hex (search) .put-hex .ensures)
+    (then (the tie.After-put3 (search) .put3 .ensures) end))))))
 
 pub request-line-spec : {M : Type 1} → statement M
 request-line-spec =

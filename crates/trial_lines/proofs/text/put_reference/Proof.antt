@@ -20,7 +20,7 @@ same-length c = search needs
 returns : tie.Need-returns
 unfolding reference
 returns c =
-    let a = c .before .before .before .before .before .before .before .before .before .before .before .args in
+    let a = c .before .before .before .before .before .before .before .before .before .before .before .before .args in
     rw (eq-eqb (a .slot .0) NONE (c .before .before .before .before .before .before .before .before .if1 .taken))
     (put-then (a .out .now) (c .before .before .before .before .before .before .put .last .0) (c .before .before .put2 .last .0) (32 ∷ []) (45 ∷ []) (a .at) (c .before .before .before .before .before .before .put .result) (c .before .before .put2 .result) (c .before .before .before .before .before .before .put .ensures) (c .before .before .put2 .ensures))
 
@@ -32,7 +32,7 @@ same-length-2 c = search needs
 
 returns-2 : tie.Need-returns-2
 unfolding reference
-returns-2 c = rw (ne-eqb (c .before .before .before .before .before .before .before .args .slot .0) NONE (c .before .before .before .before .if1 .left)) (c .before .before .put-field .ensures)
+returns-2 c = rw (ne-eqb (c .before .before .before .before .before .before .before .before .args .slot .0) NONE (c .before .before .before .before .if1 .left)) (c .before .before .put-field .ensures)
 
 pub put-reference-spec : {M : Type 1} → statement M
 put-reference-spec =

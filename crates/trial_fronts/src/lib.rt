@@ -1,0 +1,121 @@
+// The fronts of lent arrays, as many slots as are in use, lent on: to a line's call, and to the listing.
+ghost use mathlib.Core.Path.{_≡_};
+ghost use Prim.Native.Nat.{min};
+ghost use lib.ListN.{length, take};
+ghost use lib.Seq.{sets};
+ghost use Rattle.rules.specs.Records.{tablesOf};
+ghost use Rattle.rules.specs.Calls.{stateOf};
+ghost use Rattle.trial_lines.specs.Writing.{place};
+ghost use Rattle.trial_listing.specs.Listing.{listingOf};
+ghost use Rattle.trial_calls.specs.Calling.{Tells};
+ghost use Rattle.trial_fronts.specs.Fronts.{front, behind};
+use rules::BlockSlot;
+use trial_answer::answer;
+use trial_calls::Told;
+use trial_lines::Line;
+use trial_listing::listing;
+
+fn least(a: usize, b: usize) -> usize
+    ensures { λ r. ⌜ r ≡ min a b ⌝ }
+{
+    if a < b { a } else { b }
+}
+
+// As much of each array as there is.
+pub fn answer_front(
+    hashes: &mut [u8],
+    parents: &mut [u32],
+    sequences: &mut [u32],
+    counts: &mut [u8],
+    flags: &mut [u8],
+    tips: &mut [u32],
+    tails: &mut [u32],
+    missing: &mut [u8],
+    requested: &mut [u64],
+    arrivals: &mut [u64],
+    connected: &mut [u8],
+    n: u32,
+    m: u32,
+    active: BlockSlot,
+    line: Line,
+    out: &mut [u8],
+    at: usize,
+) -> Told
+    ensures { λ r. ⌜ Tells (stateOf (front n m (tablesOf (now (hashes .entry)) (now (parents .entry)) (now (sequences .entry)) (now (counts .entry)) (now (flags .entry))
+        (now (tips .entry)) (now (tails .entry)) (now (missing .entry)) (now (requested .entry)) (now (arrivals .entry)) (now (connected .entry)))) (active .0)) line (now (out .entry)) at
+        (stateOf (front n m (tablesOf (now (hashes .exit)) (now (parents .exit)) (now (sequences .exit)) (now (counts .exit)) (now (flags .exit))
+        (now (tips .exit)) (now (tails .exit)) (now (missing .exit)) (now (requested .exit)) (now (arrivals .exit)) (now (connected .exit)))) (r .active .0)) (r .renewed) (now (out .exit)) (r .at)
+        × (behind n m (tablesOf (now (hashes .exit)) (now (parents .exit)) (now (sequences .exit)) (now (counts .exit)) (now (flags .exit))
+        (now (tips .exit)) (now (tails .exit)) (now (missing .exit)) (now (requested .exit)) (now (arrivals .exit)) (now (connected .exit)))
+        ≡ behind n m (tablesOf (now (hashes .entry)) (now (parents .entry)) (now (sequences .entry)) (now (counts .entry)) (now (flags .entry))
+        (now (tips .entry)) (now (tails .entry)) (now (missing .entry)) (now (requested .entry)) (now (arrivals .entry)) (now (connected .entry)))) ⌝ }
+{
+    let blocks = n as usize;
+    let heads = m as usize;
+    let hash_end = least(blocks * 32, hashes.len());
+    let parent_end = least(blocks, parents.len());
+    let sequence_end = least(blocks, sequences.len());
+    let count_end = least(blocks, counts.len());
+    let flag_end = least(blocks, flags.len());
+    let tip_end = least(heads, tips.len());
+    let tail_end = least(heads, tails.len());
+    let missing_end = least(heads * 32, missing.len());
+    let requested_end = least(heads, requested.len());
+    let arrival_end = least(heads, arrivals.len());
+    let connected_end = least(heads, connected.len());
+    answer(
+        &mut hashes[..hash_end],
+        &mut parents[..parent_end],
+        &mut sequences[..sequence_end],
+        &mut counts[..count_end],
+        &mut flags[..flag_end],
+        &mut tips[..tip_end],
+        &mut tails[..tail_end],
+        &mut missing[..missing_end],
+        &mut requested[..requested_end],
+        &mut arrivals[..arrival_end],
+        &mut connected[..connected_end],
+        active,
+        line,
+        out,
+        at,
+    )
+}
+
+pub fn list_front(
+    parents: &[u32],
+    sequences: &[u32],
+    counts: &[u8],
+    flags: &[u8],
+    tips: &[u32],
+    tails: &[u32],
+    connected: &[u8],
+    n: u32,
+    m: u32,
+    out: &mut [u8],
+    at: usize,
+) -> usize
+    ensures { λ r. ⌜ (now (out .exit) ≡ sets (now (out .entry)) at (listingOf (take n (now (parents .entry))) (take n (now (sequences .entry))) (take n (now (counts .entry))) (take n (now (flags .entry))) (take m (now (tips .entry))) (take m (now (tails .entry))) (take m (now (connected .entry)))))
+        × (r ≡ place (length (now (out .entry))) at (length (listingOf (take n (now (parents .entry))) (take n (now (sequences .entry))) (take n (now (counts .entry))) (take n (now (flags .entry))) (take m (now (tips .entry))) (take m (now (tails .entry))) (take m (now (connected .entry)))))) ⌝ }
+{
+    let blocks = n as usize;
+    let heads = m as usize;
+    let parent_end = least(blocks, parents.len());
+    let sequence_end = least(blocks, sequences.len());
+    let count_end = least(blocks, counts.len());
+    let flag_end = least(blocks, flags.len());
+    let tip_end = least(heads, tips.len());
+    let tail_end = least(heads, tails.len());
+    let connected_end = least(heads, connected.len());
+    listing(
+        &parents[0..parent_end],
+        &sequences[0..sequence_end],
+        &counts[0..count_end],
+        &flags[0..flag_end],
+        &tips[0..tip_end],
+        &tails[0..tail_end],
+        &connected[0..connected_end],
+        out,
+        at,
+    )
+}

@@ -1,0 +1,9 @@
+pub mod Answered
+pub mod Bytes
+pub mod Chunks
+pub mod Closing
+pub mod First
+pub mod Laid
+pub mod Room
+pub mod Sized
+pub mod Whole

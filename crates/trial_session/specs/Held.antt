@@ -1,0 +1,118 @@
+-- How a trial's arrays hold a session: the tables in use are the first slots of the arrays, and what has come of a line stands at the
+-- start of its buffer. What stands behind is left as it was.
+use mathlib.Core.Path.{_≡_}
+use mathlib.Core.List.{List, [], _∷_, _++_}
+use Prim.Native.Nat.{ℕ, _+_, min}
+use lib.Dec.{eqb, leb}
+use lib.ListN.{length, set, take, drop}
+use lib.Seq.{sets}
+use Rattle.rules.specs.Common.{if_then_else_}
+use Rattle.rules.specs.Records.{Tables, NONE}
+use Rattle.rules.specs.Calls.{State, Stepped, stateOf}
+use Rattle.trial_lines.specs.Writing.{place}
+use Rattle.trial_lines.specs.declared.Line.{Line}
+use Rattle.trial_lines.specs.declared.Line.the-variants.{Fresh, Admit, Promote, Remove, Timer, Restart, Unread}
+use Rattle.trial_calls.specs.Calling.{renews}
+use Rattle.trial_fronts.specs.Fronts.{front, behind, before}
+use Rattle.trial_session.specs.Session.{lineDone, lineMost, Begun, soFar, tooLong, Session, Fed, lineBegun, hasBegun, closing}
+use Rattle.trial_session.specs.declared.Trial.{Trial}
+
+-- ---- what is held
+
+pub record Held : Type 0 where
+  pub arrays : Tables
+  pub line : List ℕ
+  pub trial : Trial
+
+-- before anything came
+abbrev pub newTrial : Trial
+newTrial = record { n = 0; m = 0; active = record { 0 = NONE }; begun = 0 }
+
+abbrev pub heldOf : Tables → List ℕ → Trial → Held
+heldOf arrays line trial = record { arrays = arrays; line = line; trial = trial }
+
+unfoldable pub stateIn : Held → State
+stateIn h = stateOf (front (h .trial .n) (h .trial .m) (h .arrays)) (h .trial .active .0)
+
+-- more bytes than the buffer has are too many
+unfoldable pub begunIn : Held → Begun
+begunIn h = if leb (h .trial .begun) lineMost then soFar (take (h .trial .begun) (h .line)) else tooLong
+
+unfoldable pub sessionIn : Held → Session
+sessionIn h = record { state = stateIn h; begun = begunIn h }
+
+-- ---- after a line
+
+-- the sizes that a line asks for: N its own
+unfoldable pub asked : Trial → Line → Trial
+asked z (Fresh n m) = record { n = n; m = m; active = z .active; begun = z .begun }
+asked z (Admit sequence hash previous arrival) = z
+asked z (Promote slot) = z
+asked z (Remove slot) = z
+asked z (Timer now retry) = z
+asked z (Restart now) = z
+asked z Unread = z
+
+-- a trial of these sizes with a new line before it
+unfoldable pub sizesAfter : Trial → (active : ℕ) → Trial
+sizesAfter z active = record { n = z .n; m = z .m; active = record { 0 = active }; begun = 0 }
+
+unfoldable pub trialAfter : Trial → Line → Stepped → Trial
+trialAfter z line d = sizesAfter (if renews line (d .answer) then asked z line else z) (d .after .activeHead)
+
+unfoldable pub heldLine : Held → Line → Held
+heldLine h line =
+    let d = lineDone (stateIn h) line in
+    let z = trialAfter (h .trial) line d in
+    heldOf (before (d .after .tables) (behind (z .n) (z .m) (h .arrays))) (h .line) z
+
+unfoldable pub heldEnded : Held → Held
+heldEnded h = heldLine h (lineBegun (begunIn h))
+
+-- ---- after bytes
+
+unfoldable pub heldJoined : Held → ℕ → Held
+heldJoined h byte =
+    let z = h .trial in
+    heldOf (h .arrays) (set (h .line) (z .begun) byte) (record { n = z .n; m = z .m; active = z .active; begun = min (z .begun + 1) (lineMost + 1) })
+
+unfoldable pub heldByte : Held → ℕ → Held
+heldByte h byte = if eqb byte 10 then heldEnded h else heldJoined h byte
+
+unfoldable pub heldFed : Held → List ℕ → Held
+heldFed h [] = h
+heldFed h (byte ∷ bytes) = heldFed (heldByte h byte) bytes
+
+-- ---- after the last line
+
+unfoldable pub heldClosed : Held → Held
+heldClosed h = if hasBegun (begunIn h) then heldEnded h else h
+
+-- how many bytes are taken at once, and how many what is printed then, or at the end, may have
+abbrev pub chunkMost : ℕ
+chunkMost = 1024
+
+abbrev pub room : ℕ
+room = 104736
+
+-- ---- what a function of the session leaves
+
+-- k is what is held and f what is printed: the arrays and the buffer afterwards, and the place after what is printed
+pub record Comes (k : Held) (f : Fed) (out : List ℕ) (at : ℕ) (g : Held) (written : List ℕ) (next : ℕ) : Type 0 where
+  pub held : g ≡ k
+  pub session : sessionIn g ≡ f .session
+  pub text : written ≡ sets out at (f .said)
+  pub end : next ≡ place (length out) at (length (f .said))
+
+-- the same from the start of a buffer that has room for all of it
+pub record Fills (k : Held) (f : Fed) (out : List ℕ) (g : Held) (written : List ℕ) (next : ℕ) : Type 0 where
+  pub held : g ≡ k
+  pub session : sessionIn g ≡ f .session
+  pub text : written ≡ f .said ++ drop (length (f .said)) out
+  pub end : next ≡ length (f .said)
+
+-- the end of a trial, in a buffer that has room for all of it
+pub record Closes (h : Held) (out : List ℕ) (arrays : Tables) (written : List ℕ) (next : ℕ) : Type 0 where
+  pub left : arrays ≡ heldClosed h .arrays
+  pub text : written ≡ closing (sessionIn h) ++ drop (length (closing (sessionIn h))) out
+  pub end : next ≡ length (closing (sessionIn h))

@@ -1,0 +1,112 @@
+-- A trial (01, "One trial whole"): what a line does to a session, what a byte does, and what a whole input prints.
+use mathlib.Core.Bool.{Bool, true, false}
+use mathlib.Core.List.{List, [], _∷_, _++_}
+use Prim.Native.Nat.{ℕ}
+use lib.Dec.{eqb, ltb}
+use lib.ListN.{length}
+use Rattle.rules.specs.Common.{if_then_else_}
+use Rattle.rules.specs.Records.{Tables}
+use Rattle.rules.specs.Calls.{State, Stepped, answering, freshState, fresh}
+use Rattle.trial_lines.specs.Reading.{parse}
+use Rattle.trial_lines.specs.declared.Line.{Line}
+use Rattle.trial_lines.specs.declared.Line.the-variants.{Fresh, Admit, Promote, Remove, Timer, Restart, Unread}
+use Rattle.trial_calls.specs.Calling.{called, lineSaid, isRefused}
+use Rattle.trial_listing.specs.Listing.{listingOf}
+
+-- ---- a line
+
+-- a refused N keeps the old tables
+unfoldable pub unlessRefused : State → Stepped → Stepped
+unlessRefused s d = if isRefused (d .answer) then answering s (d .answer) else d
+
+-- N n m makes tables of n and m slots fresh; the other lines call on the tables that are there
+unfoldable pub lineDone : State → Line → Stepped
+lineDone s (Fresh n m) = unlessRefused s (fresh (freshState n m))
+lineDone s (Admit sequence hash previous arrival) = called s (Admit sequence hash previous arrival)
+lineDone s (Promote slot) = called s (Promote slot)
+lineDone s (Remove slot) = called s (Remove slot)
+lineDone s (Timer now retry) = called s (Timer now retry)
+lineDone s (Restart now) = called s (Restart now)
+lineDone s Unread = called s Unread
+
+-- ---- a byte
+
+-- what has come of a line
+pub data Begun : Type 0 where
+  soFar : List ℕ → Begun
+  tooLong : Begun
+
+pub record Session : Type 0 where
+  pub state : State
+  pub begun : Begun
+
+-- what a session is after some bytes, and what they made it print
+pub record Fed : Type 0 where
+  pub session : Session
+  pub said : List ℕ
+
+-- a line is done, and the next begins
+unfoldable pub lineFed : State → Line → Fed
+lineFed s line =
+    let d = lineDone s line in
+    record { session = record { state = d .after; begun = soFar [] }; said = lineSaid line (d .answer) }
+
+-- a line has at most 128 bytes before its end
+abbrev pub lineMost : ℕ
+lineMost = 128
+
+unfoldable pub lineBegun : Begun → Line
+lineBegun (soFar bytes) = parse bytes
+lineBegun tooLong = Unread
+
+unfoldable pub longer : Begun → ℕ → Begun
+longer (soFar bytes) byte = if ltb (length bytes) lineMost then soFar (bytes ++ byte ∷ []) else tooLong
+longer tooLong byte = tooLong
+
+unfoldable pub ended : Session → Fed
+ended s = lineFed (s .state) (lineBegun (s .begun))
+
+-- the end of a line is the byte 10
+unfoldable pub fedByte : Session → ℕ → Fed
+fedByte s byte =
+    if eqb byte 10 then ended s
+    else record { session = record { state = s .state; begun = longer (s .begun) byte }; said = [] }
+
+unfoldable pub fed : Session → List ℕ → Fed
+fed s [] = record { session = s; said = [] }
+fed s (byte ∷ bytes) =
+    let f = fedByte s byte in
+    let g = fed (f .session) bytes in
+    record { session = g .session; said = f .said ++ g .said }
+
+-- ---- the end
+
+unfoldable pub hasBegun : Begun → Bool
+hasBegun (soFar []) = false
+hasBegun (soFar (byte ∷ bytes)) = true
+hasBegun tooLong = true
+
+-- the last line may lack its end
+unfoldable pub lastEnded : Session → Fed
+lastEnded s = if hasBegun (s .begun) then ended s else record { session = s; said = [] }
+
+unfoldable pub tablesListed : Tables → List ℕ
+tablesListed t =
+    listingOf (t .blocks .parents) (t .blocks .sequences) (t .blocks .counts) (t .blocks .flags) (t .heads .tips) (t .heads .tails) (t .heads .connected)
+
+unfoldable pub closing : Session → List ℕ
+closing s = let f = lastEnded s in f .said ++ tablesListed (f .session .state .tables)
+
+-- ---- the whole
+
+-- before an accepted N the tables have no slots, so that each call is refused its shape
+unfoldable pub start : Session
+start = record { state = freshState 0 0; begun = soFar [] }
+
+unfoldable pub transcript : List ℕ → List ℕ
+transcript input = let f = fed start input in f .said ++ closing (f .session)
+
+-- the same as a program reads it: chunk after chunk
+unfoldable pub inChunks : Session → List (List ℕ) → List ℕ
+inChunks s [] = closing s
+inChunks s (chunk ∷ chunks) = let f = fed s chunk in f .said ++ inChunks (f .session) chunks

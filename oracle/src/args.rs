@@ -1,6 +1,7 @@
 //! The arguments of the compared functions, all of them at once: each function takes some. And a
 //! walk over the fields of arguments and tables, for what must treat each kind of field alike.
 
+use crate::buffers::{BUFFERS, Cells};
 use crate::misfit::Misfit;
 use crate::show::{hex, reference};
 use crate::tables::{BlockStatus, Hash, Tables};
@@ -117,17 +118,21 @@ fn rank((value, len, hash): &Rank) -> String {
 
 impl Tables {
     pub fn each_field(&mut self, see: &mut impl FnMut(Field)) {
-        self.hashes.chunks_exact_mut(32).for_each(|hash| see(Field::Hash(hash)));
-        self.parents.iter_mut().for_each(|slot| see(Field::BlockSlot(slot)));
-        self.sequences.iter_mut().for_each(|sequence| see(Field::Sequence(sequence)));
-        self.counts.iter_mut().for_each(|count| see(Field::Byte(count)));
-        self.flags.iter_mut().for_each(|flags| see(Field::Byte(flags)));
-        self.tips.iter_mut().for_each(|slot| see(Field::BlockSlot(slot)));
-        self.tails.iter_mut().for_each(|slot| see(Field::BlockSlot(slot)));
-        self.missing.chunks_exact_mut(32).for_each(|hash| see(Field::Hash(hash)));
-        self.requested.iter_mut().for_each(|time| see(Field::Time(time)));
-        self.arrivals.iter_mut().for_each(|time| see(Field::Time(time)));
-        self.connected.iter_mut().for_each(|flags| see(Field::Byte(flags)));
+        for buffer in BUFFERS {
+            match (buffer.cells)(self) {
+                Cells::Hashes(bytes) => {
+                    bytes.chunks_exact_mut(32).for_each(|hash| see(Field::Hash(hash)));
+                }
+                Cells::BlockSlots(slots) => {
+                    slots.iter_mut().for_each(|slot| see(Field::BlockSlot(slot)));
+                }
+                Cells::Sequences(sequences) => {
+                    sequences.iter_mut().for_each(|sequence| see(Field::Sequence(sequence)));
+                }
+                Cells::Bytes(bytes) => bytes.iter_mut().for_each(|byte| see(Field::Byte(byte))),
+                Cells::Times(times) => times.iter_mut().for_each(|time| see(Field::Time(time))),
+            }
+        }
         see(Field::BlockSlot(&mut self.active));
     }
 }

@@ -2,6 +2,7 @@
 //! and tables of arbitrary fields; arguments that meet them and arguments that do not.
 
 use crate::args::{Args, Rank};
+use crate::buffers::{BUFFERS, Buffer, Cells};
 use crate::misfit::Misfit;
 use crate::random::Random;
 use crate::tables::{Block, BlockStatus, Hash, Head, NONE_REF, Tables};
@@ -99,7 +100,10 @@ fn misfit(r: &mut Random) -> Misfit {
     match r.below(6) {
         0 => Misfit::Blocks(r.pick(&[0, 1025, 1026, 2048])),
         1 => Misfit::Heads(r.pick(&[0, 1, 65, 66, 128])),
-        _ => Misfit::Buffer(r.below(11), r.pick(&[-64, -32, -31, -2, -1, 1, 2, 31, 32, 64])),
+        _ => {
+            let buffer = &BUFFERS[r.below(BUFFERS.len())];
+            Misfit::Buffer(buffer, r.pick(&[-64, -32, -31, -2, -1, 1, 2, 31, 32, 64]))
+        }
     }
 }
 
@@ -307,27 +311,13 @@ fn reached(r: &mut Random, n: usize, m: usize) -> Tables {
     order.retain(|&slot| children[slot] == 0);
     if order.len() >= 2 && r.percent(70) {
         let most = HEAD_SLOTS.iter().rev().find(|(slots, _)| *slots <= order.len());
-        t = with_head_slots(t, most.expect("two are enough").0);
+        t = t.with_empty_heads(most.expect("two are enough").0);
     }
     raise_heads(r, &mut t, &order, &mut hashes);
     if r.percent(60) {
         arrive(r, &mut t, &mut hashes);
     }
     t
-}
-
-/// The same blocks with so many empty head slots.
-fn with_head_slots(t: Tables, m: usize) -> Tables {
-    let heads = Tables::empty(0, m);
-    Tables {
-        tips: heads.tips,
-        tails: heads.tails,
-        missing: heads.missing,
-        requested: heads.requested,
-        arrivals: heads.arrivals,
-        connected: heads.connected,
-        ..t
-    }
 }
 
 /// Puts a block in an empty slot, as admit does: the one that a head misses, a child of some block,
@@ -468,36 +458,39 @@ fn children(t: &Tables) -> Vec<usize> {
     children
 }
 
-/// Puts one field, or one record, out of order.
+/// Puts one cell of a buffer, one record or the active head out of order.
 fn damage(r: &mut Random, t: &mut Tables) {
     let at = r.below(t.n());
     let head = r.below(t.m());
-    match r.below(16) {
-        0 => t.parents[at] = any_slot(r, t.n()),
-        1 => t.parents[at] = at as u32,
-        2 => t.sequences[at] = sequence(r, t),
-        3 => t.sequences[at] = NONE_REF,
-        4 => t.counts[at] = byte(r),
-        5 => t.flags[at] = byte(r),
-        6 => {
-            let near = t.block(r.below(t.n())).hash;
-            let hash = hash_near(r, t, near);
-            t.set_block(at, Block { hash, ..t.block(at) });
-        }
-        7 => t.set_block(at, t.block(r.below(t.n()))),
-        8 => t.set_block(at, any_block(r, t)),
-        9 => t.tips[head] = any_slot(r, t.n()),
-        10 => t.tails[head] = any_slot(r, t.n()),
-        11 => {
-            let near = t.block(r.below(t.n())).hash;
-            let missing = hash_near(r, t, near);
-            t.set_head(head, Head { missing, ..t.head(head) });
-        }
-        12 => t.requested[head] = time(r),
-        13 => t.connected[head] = byte(r),
-        14 => t.set_head(head, t.head(r.below(t.m()))),
-        _ => t.active = any_slot(r, t.n()),
+    match r.below(6 + BUFFERS.len()) {
+        0 => t.parents[at] = at as u32,
+        1 => t.sequences[at] = NONE_REF,
+        2 => t.set_block(at, t.block(r.below(t.n()))),
+        3 => t.set_block(at, any_block(r, t)),
+        4 => t.set_head(head, t.head(r.below(t.m()))),
+        5 => t.active = any_slot(r, t.n()),
+        others => damage_cell(r, t, &BUFFERS[others - 6]),
     }
+}
+
+fn damage_cell(r: &mut Random, t: &mut Tables, buffer: &Buffer) {
+    let before = t.clone();
+    match (buffer.cells)(t) {
+        Cells::Hashes(bytes) => {
+            let near = before.block(r.below(before.n())).hash;
+            let at = 32 * r.below(bytes.len() / 32);
+            bytes[at..][..32].copy_from_slice(&hash_near(r, &before, near));
+        }
+        Cells::BlockSlots(slots) => *one_of(r, slots) = any_slot(r, before.n()),
+        Cells::Sequences(sequences) => *one_of(r, sequences) = sequence(r, &before),
+        Cells::Bytes(bytes) => *one_of(r, bytes) = byte(r),
+        Cells::Times(times) => *one_of(r, times) = time(r),
+    }
+}
+
+fn one_of<'a, T>(r: &mut Random, cells: &'a mut [T]) -> &'a mut T {
+    let at = r.below(cells.len());
+    &mut cells[at]
 }
 
 /// Tables of arbitrary fields.

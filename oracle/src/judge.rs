@@ -1,6 +1,7 @@
 //! The original's side of the calls, put together from its functions as the scope document says.
 //! The refusals are read off that document too, in its order.
 
+use crate::buffers::BUFFERS;
 use crate::calls::{Answer, Call, Refusal, Reply};
 use crate::original::*;
 use crate::tables::{Block, BlockStatus, Hash, Head, NONE_REF, Tables};
@@ -49,10 +50,7 @@ pub fn is_shaped(t: &Tables) -> bool {
     let (n, m) = (t.n(), t.m());
     (1..=1024).contains(&n)
         && (2..=64).contains(&m)
-        && t.hashes.len() == 32 * n
-        && [t.sequences.len(), t.counts.len(), t.flags.len()] == [n; 3]
-        && t.missing.len() == 32 * m
-        && [t.tails.len(), t.requested.len(), t.arrivals.len(), t.connected.len()] == [m; 4]
+        && BUFFERS.iter().all(|buffer| (buffer.len)(t) == (buffer.fits)(n, m))
 }
 
 fn fresh(t: &mut Tables) {

@@ -5,6 +5,7 @@
 compile_error!("the judge is a release build: cargo run --release");
 
 pub mod args;
+pub mod buffers;
 pub mod calls;
 pub mod exhaustive;
 pub mod functions;

@@ -287,12 +287,8 @@ fn keep_blocks(case: &mut Case, kept: &[usize]) {
 /// Keeps these head slots alone.
 fn keep_heads(case: &mut Case, kept: &[usize]) {
     let old = case.tables.clone();
-    case.tables = Tables::empty(old.n(), kept.len());
-    for slot in 0..old.n() {
-        case.tables.set_block(slot, old.block(slot));
-    }
+    case.tables = old.with_empty_heads(kept.len());
     for (slot, &was) in kept.iter().enumerate() {
         case.tables.set_head(slot, old.head(was));
     }
-    case.tables.active = old.active;
 }

@@ -121,6 +121,13 @@ impl Tables {
         }
     }
 
+    /// The same blocks with so many empty head slots.
+    pub fn with_empty_heads(&self, m: usize) -> Tables {
+        let mut t = Tables { active: self.active, ..Tables::empty(self.n(), m) };
+        (0..self.n()).for_each(|slot| t.set_block(slot, self.block(slot)));
+        t
+    }
+
     pub fn n(&self) -> usize {
         self.parents.len()
     }

@@ -1,6 +1,6 @@
 """What the tools read of the .rt sources: the functions of a file, with their parameters, contract and body."""
 import dataclasses
-import glob
+import pathlib
 import re
 
 BRACKETS = {"(": ")", "[": "]", "{": "}", "⟦": "⟧"}
@@ -140,8 +140,8 @@ class Sources:
 
 def read_sources(root="."):
     """The text of every source, by its path from the root."""
-    paths = sorted(glob.glob("crates/*/src/**/*.rt", root_dir=root, recursive=True))
-    return {path: read(f"{root}/{path}") for path in paths}
+    paths = sorted(pathlib.Path(root).glob("crates/*/src/**/*.rt"))
+    return {str(path.relative_to(root)): read(path) for path in paths}
 
 
 def read(path):

@@ -4,6 +4,7 @@ import re
 ANSWER = re.compile(r"^(\S+) : tie\.Need-(\S+)(.*)$", re.M)
 PLACE_KINDS = "Start|At-|In-|After-|Left-|Then|Else|Joined"
 ACCESSOR = re.compile(r"^(?:abbrev )?([\w-]+) : tie\.([\w-]+)[^→\n]* → tie\.([\w-]+)[^→\n]*\n\1 (\w+) = \4((?: \.before)+)$", re.M)
+ALIAS = re.compile(r"let ([\w-]+) = (?:let \w+ : tie\.[^=\n]+ = search in )?\w+(?: \.before)* \.([\w-]+) in")
 IN_TUPLE = re.compile(r"((?: \.1)* \.0)(?![\w-])")
 BEFORE = " .before"
 
@@ -156,11 +157,11 @@ class Proof:
         """The block with its paths counted from these places, and its numbers of parameters by their names."""
         block = self.with_let_paths(block, places)
         block = re.sub(r"(?<![\w.\-])(\w+)((?: \.before)*) \.((?!before\b)[\w-]+)", lambda match: self.path(block, match, places), block)
-        aliases = dict(re.findall(r"let (\w+) = \w+(?: \.before)* \.([\w-]+) in", block))
+        aliases = dict(ALIAS.findall(block))
 
         def of_call(match):
             call = aliases.get(match.group(1), match.group(1))
-            return match.group(1, 2)[0] + f" .{match.group(2)}" + path_in_tuple(self.moved(call, match.group(3).count(".1")))
+            return f"{match.group(1)} .{match.group(2)}{path_in_tuple(self.moved(call, match.group(3).count('.1')))}"
 
         def of_function(match):
             return " .good" + path_in_tuple(self.moved(None, match.group(1).count(".1")))

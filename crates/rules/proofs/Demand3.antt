@@ -4,21 +4,20 @@ use mathlib.Core.Logic.{inl}
 use mathlib.Core.List.{List, []}
 use Prim.Native.Nat.{ℕ, _≤_}
 use native.Mathlib.Omega.{arith}
-use Rattle.rules.specs.Records.{NONE}
-use Rattle.rules.specs.Rebuild.{emptyBlocks, emptyHeads}
-use Rattle.rules.specs.Calls.{State, Call, shaped, blocksIn, headsIn, freshState, fresh}
-use Rattle.rules.specs.Promises.{Occupied, Active, Accepted, Sound, Recorded, Promise}
+use Rattle.rules.specs.Records.{NONE, emptyBlocks, emptyHeads}
+use Rattle.rules.specs.Calls.{Call, shaped, blocksIn, headsIn, freshState, fresh, maxBlocks, minHeads, maxHeads}
+use Rattle.rules.specs.Promises.{Occupied, Active, Sound, Recorded, Promise, Demand3}
 use Rattle.rules.proofs.Splits.{split}
-use Rattle.rules.proofs.Kept.Table.{ne-holds}
+use Rattle.rules.proofs.Kept.Table.{ne-occupied}
 use Rattle.rules.proofs.Kept.Frame.{Good, All}
 use Rattle.rules.proofs.Kept.Empty.{no-block, none-held, empty-shape, no-head, none-used, empty-room}
 use Rattle.rules.proofs.Kept.Walked.{active-on}
 use Rattle.rules.proofs.Kept.Border.{good-sound}
-use Rattle.rules.proofs.Kept.Went.{chain-holds}
+use Rattle.rules.proofs.Kept.Went.{chain-occupied}
 use Rattle.rules.proofs.Kept.Lists.{none-promoted, list-promise}
 use Rattle.rules.proofs.Kept.Shaped.{shaped-shape}
 
-module _ (n m : ℕ) (some : 1 ≤ n) (small : n ≤ 1024) (two : 2 ≤ m) (few : m ≤ 64) where
+module _ (n m : ℕ) (some : 1 ≤ n) (small : n ≤ maxBlocks) (two : minHeads ≤ m) (few : m ≤ maxHeads) where
   fresh-good : Good (emptyBlocks n) (emptyHeads m) NONE All
   fresh-good = record {
     frame = record {
@@ -36,11 +35,11 @@ module _ (n m : ℕ) (some : 1 ≤ n) (small : n ≤ 1024) (two : 2 ≤ m) (few 
 
   nothing-held : (i : ℕ) → Occupied (freshState n m) i → ⊥
   unfolding freshState
-  nothing-held i o = none-held n i (ne-holds (emptyBlocks n) i o)
+  nothing-held i o = none-held n i (ne-occupied (emptyBlocks n) i o)
 
   nothing-active : (i : ℕ) → Active (freshState n m) i → ⊥
   unfolding freshState
-  nothing-active i a = none-held n i (chain-holds (emptyBlocks n) i (λ i _. no-block n i) (active-on (freshState n m) i a))
+  nothing-active i a = none-held n i (chain-occupied (emptyBlocks n) i (λ i _. no-block n i) (active-on (freshState n m) i a))
 
   fresh-sound : Sound (freshState n m)
   unfolding freshState
@@ -56,7 +55,7 @@ module _ (n m : ℕ) (some : 1 ≤ n) (small : n ≤ 1024) (two : 2 ≤ m) (few 
   pub from-fresh : (calls : List Call) → Promise [] (freshState n m) calls
   from-fresh calls = list-promise [] (freshState n m) fresh-sound fresh-recorded calls
 
-pub demand-3 : (s : State) → Accepted (fresh s .answer) → (calls : List Call) → Promise [] (fresh s .after) calls
+pub demand-3 : Demand3
 unfolding fresh
 demand-3 s a calls = split (shaped (s .tables))
     (λ e.

@@ -1,3 +1,4 @@
+pub mod Places
 pub mod Splits
 pub mod Cells
 pub mod Search
@@ -11,6 +12,8 @@ pub mod Rank
 pub mod Walks
 pub mod Refusals
 pub mod Marked
+pub mod Loops
+pub mod Does
 pub mod Kept
 pub mod Demand3
 pub mod Trials

@@ -1,17 +1,16 @@
 -- The marked values of 01, all of them: one test that is computed over the whole table, and what it says of each row.
 use mathlib.Core.Path.{_≡_, refl}
 use mathlib.Core.Bool.{true}
-use mathlib.Core.Logic.{_⊎_, inl, inr}
+use mathlib.Core.Logic.{inl, inr}
 use mathlib.Core.List.{List, [], _∷_, List·Memᴰ, List·Memᴰ·cases-cons, List·Memᴰ·not-nil}
 use lib.Dec.{eqb}
 use borrow.Author.Tests.{eqb-true}
 use Rattle.rules.specs.Common.{lowest}
 use Rattle.rules.specs.Hashes.{sameHash}
-use Rattle.rules.specs.Records.{slotsOf, occupied, statusOf}
+use Rattle.rules.specs.Records.{slotsOf, occupied, statusOf, emptyBlocks, emptyHeads, blocksFit, headsFit}
 use Rattle.rules.specs.BlockTable.{isBlock, find, nextFree, adjusted}
-use Rattle.rules.specs.Rebuild.{emptyBlocks, emptyHeads}
 use Rattle.rules.specs.Timer.{due, claimed}
-use Rattle.rules.specs.Calls.{blocksFit, headsFit, shaped, freshState, fresh, admit}
+use Rattle.rules.specs.Calls.{shaped, freshState, fresh, admit}
 use Rattle.rules.specs.Marked.{Mark, freshOf, admitOf, marks, allAsMarked}
 use Rattle.rules.proofs.Splits.{and-true}
 

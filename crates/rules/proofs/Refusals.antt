@@ -18,37 +18,7 @@ use Rattle.rules.specs.Removal.{removed}
 use Rattle.rules.specs.Rebuild.{restarted}
 use Rattle.rules.specs.Timer.{Ask, spanOr, recovery, deadline}
 use Rattle.rules.specs.Answers.{Answer, refused, done, slot, freed, request, noneDue, dueAt, neverDue, lastRefusal}
-use Rattle.rules.specs.Calls.{
-  State,
-  Stepped,
-  Call,
-  admitCall,
-  promoteCall,
-  removeCall,
-  timerCall,
-  restartCall,
-  step,
-  refuse,
-  answering,
-  keeping,
-  shaped,
-  blocksIn,
-  headsIn,
-  freshState,
-  fresh,
-  known,
-  takesSlot,
-  admit,
-  isNext,
-  promotedTo,
-  promote,
-  holdsActive,
-  remove,
-  asked,
-  timer,
-  earliestDeadline,
-  restart,
-}
+use Rattle.rules.specs.Calls.{State, Stepped, Call, admitCall, promoteCall, removeCall, timerCall, restartCall, step, refuse, answering, keeping, shaped, blocksIn, headsIn, freshState, fresh, known, takesSlot, admit, isNext, promotedTo, promote, holdsActive, remove, asked, timer, earliestDeadline, restart}
 use Rattle.rules.proofs.Splits.{split, option?, and-true, true-not-false}
 
 abbrev Numbered : ℕ → Type 0
@@ -129,11 +99,11 @@ module _ (s : State) where
   unfolding promote
   promotes i =
       let y = answering (promotedTo s i) done in
-      let z = if not (isNext s i) then refuse s 8 else y in
+      let z = if not (isNext (s .tables .blocks .parents) (s .activeHead) i) then refuse s 8 else y in
       let w = if not (occupied (s .tables .blocks .sequences) i) then refuse s 3 else z in
       next Numbered s (not (shaped (s .tables))) 1 w (omega arith, omega arith)
       (next Numbered s (not (occupied (s .tables .blocks .sequences) i)) 3 z (omega arith, omega arith)
-      (next Numbered s (not (isNext s i)) 8 y (omega arith, omega arith) (answers Numbered s (y .after) done refl)))
+      (next Numbered s (not (isNext (s .tables .blocks .parents) (s .activeHead) i)) 8 y (omega arith, omega arith) (answers Numbered s (y .after) done refl)))
 
   removes : (i : ℕ) → Refuses Numbered s (remove s i)
   unfolding remove

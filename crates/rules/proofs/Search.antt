@@ -1,6 +1,6 @@
 -- The lowest number that passes, the one that goes before all others, how many pass and which: what callers use of each.
 use mathlib.Core.Path.{_≡_, refl, sym, _∙_}
-use mathlib.Core.Logic.{_≢_, _⊎_}
+use mathlib.Core.Logic.{_≢_}
 use mathlib.Core.Bool.{Bool, true, false}
 use mathlib.Core.List.{[], _∷_, _++_, append-nil}
 use mathlib.Core.Option.{none, some}
@@ -8,7 +8,7 @@ use Prim.Native.Nat.{ℕ, zero, suc, _+_, _<_, _≤_}
 use native.Mathlib.Numerals.{add-one}
 use native.Mathlib.Omega.{arith}
 use lib.ListN.{length, length-append}
-use Rattle.rules.specs.Common.{if_then_else_, lowest, countBelow, allBelow, inOrder}
+use Rattle.rules.specs.Common.{lowest, countBelow, allBelow, inOrder}
 use Rattle.rules.proofs.Splits.{split, same?, option?, true-not-false, some-not-none}
 
 -- ---- the lowest

@@ -1,4 +1,4 @@
--- Case splits on a test with its equation in hand, and what holds of `&&` and `isSome`.
+-- Case splits on a test with its equation in hand, and what isOccupied of `&&` and `isSome`.
 use mathlib.Core.Path.{_≡_, refl}
 use mathlib.Core.Logic.{_≢_}
 use mathlib.Core.Bool.{Bool, true, false, _&&_}

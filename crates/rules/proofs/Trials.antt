@@ -6,7 +6,7 @@ use Prim.Native.Nat.{ℕ}
 use lib.ListN.{replicate}
 use Rattle.rules.specs.Common.{lowest, better, best, countBelow, allBelow, inOrder}
 use Rattle.rules.specs.Hashes.{hashLength, bytesFrom, hashAt, putHash, sameHash, hashLess}
-use Rattle.rules.specs.Records.{NONE, slotsOf, occupied, used, active, isConnected, stored, withStatus, putBlock, putHead}
+use Rattle.rules.specs.Records.{NONE, slotsOf, occupied, used, active, isConnected, stored, withStatus, putBlock, putHead, emptyBlocks, emptyHeads, blocksFit, headsFit}
 use Rattle.rules.specs.BlockTable.{isBlock, find, nextFree, findParent, childOf, children, childless, reaches, inSubtree, markSubtree, adjusted, adjustCounts, setOccupied, setOnActiveChain, setStatus, delete, insertAt, resolveParent, adjust}
 use Rattle.rules.specs.Anchor.{anchorFrom, locateAnchor}
 use Rattle.rules.specs.Caches.{waitsAt, knowing, missingPart, keep, recompute, slotOfHead, refreshHead, recomputeUsed, recomputeAll}
@@ -14,10 +14,10 @@ use Rattle.rules.specs.Eviction.{blockBefore, mayGo, victim, evictFrom, 
 use Rattle.rules.specs.Admission.{firstEmpty, seatHead, makeRoom, insertHead, moveUp, fork, placeHead, misses, late, joined, link, linkLate, recomputeMissed, linkTails, recomputeMissing, resolveTails, admitted, outgrown, refreshOutgrown, refreshTails}
 use Rattle.rules.specs.Promotion.{activate, promoted}
 use Rattle.rules.specs.Removal.{recount, recountAll, listed, headFreed, takesOver, heir, dropHead, dropHeads, blocksDeleted, freeAll, removed}
-use Rattle.rules.specs.Rebuild.{emptyBlocks, emptyHeads, rebuildAt, rebuildHeads, rebuilt, restarted}
+use Rattle.rules.specs.Rebuild.{rebuildAt, rebuildHeads, rebuilt, restarted}
 use Rattle.rules.specs.Timer.{due, mayAsk, asksBefore, chosen, claimed, askAt, recovery, markRequested}
 use Rattle.rules.specs.Answers.{Answer, refused, done, slot, freed, request}
-use Rattle.rules.specs.Calls.{State, Call, admitCall, promoteCall, removeCall, timerCall, restartCall, blocksFit, headsFit, shaped, freshState, admitAt, admit, isNext, promote, holdsActive, remove, asked, timer, restart, step, run}
+use Rattle.rules.specs.Calls.{State, Call, admitCall, promoteCall, removeCall, timerCall, restartCall, shaped, freshState, admitAt, admit, isNext, promote, holdsActive, remove, asked, timer, restart, step, run}
 use Rattle.rules.specs.Promises.{Made, made}
 
 -- 32 bytes alike
@@ -123,7 +123,7 @@ late-child = record {
   };
 }
 
--- a block that is not next and a subtree that holds active are refused; then a subtree goes, and its parent is a head again
+-- a block that is not next and a subtree that isOccupied active are refused; then a subtree goes, and its parent is a head again
 unfoldable subtree-gone : Row
 subtree-gone = record {
   given = trial (freshState 4 2) (admits 5 10 9 ∷ admits 6 11 10 ∷ admits 7 12 11 ∷ admits 7 13 11 ∷ promoteCall 0 ∷ promoteCall 2 ∷ removeCall 0 ∷ removeCall 1 ∷ []);

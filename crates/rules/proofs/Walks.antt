@@ -6,7 +6,6 @@ use mathlib.Core.List.{List}
 use Prim.Native.Nat.{ℕ, zero, suc, _<_}
 use native.Mathlib.Omega.{arith}
 use borrow.Author.Tests.{eq-eqb, ne-eqb}
-use Rattle.rules.specs.Common.{if_then_else_}
 use Rattle.rules.specs.Records.{NONE, parentAt, occupied, active}
 use Rattle.rules.specs.BlockTable.{reaches, walksToActive}
 use Rattle.rules.specs.Anchor.{connection, tail, anchorFrom}

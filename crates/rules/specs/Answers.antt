@@ -1,8 +1,8 @@
 -- Answers (01, "Replies and refusals"): the paper's number and values for each case of each enum.
-use mathlib.Core.Bool.{Bool, true, false}
-use mathlib.Core.List.{List}
+use mathlib.Core.Bool.{true, false}
 use mathlib.Core.Option.{Option, none, some}
 use Prim.Native.Nat.{ℕ}
+use Rattle.rules.specs.Kinds.{BlockSlot, HeadSlot, Sequence, Time, Hash}
 use Rattle.rules.specs.Hashes.{zeroHash}
 use Rattle.rules.specs.Records.{statusNumber, emptyBlock}
 use Rattle.rules.specs.BlockTable.{Insertion, intoSlot, reserved, full}
@@ -47,11 +47,11 @@ use Rattle.rules.specs.declared.DeadlineAnswer.the-variants as deadlineA
 
 -- ---- below the calls
 
-abbrev pub slotFound : Found → Option ℕ
+abbrev pub slotFound : Found → Option BlockSlot
 slotFound (found.At slot) = some (slot .0)
 slotFound found.Nothing = none
 
-abbrev pub headFound : FoundHead → Option ℕ
+abbrev pub headFound : FoundHead → Option HeadSlot
 headFound (foundHead.At slot) = some (slot .0)
 headFound foundHead.Nothing = none
 
@@ -81,7 +81,7 @@ abbrev pub anchorLocated : Located → Anchor
 anchorLocated (located.Connection slot) = connection (slot .0)
 anchorLocated (located.Tail slot) = tail (slot .0)
 
-abbrev pub spanGiven : Span → Option ℕ
+abbrev pub spanGiven : Span → Option Time
 spanGiven (span.Ticks ticks) = some ticks
 spanGiven span.Unset = none
 
@@ -89,7 +89,7 @@ abbrev pub askChosen : Recovery → Option Ask
 askChosen (recovery.Ask head sequence) = some (record { head = head .0; claims = sequence .0 })
 askChosen recovery.NoneDue = none
 
-abbrev pub deadlineGot : Deadline → Option ℕ
+abbrev pub deadlineGot : Deadline → Option Time
 deadlineGot (deadline.At time) = some time
 deadlineGot deadline.Never = none
 
@@ -111,13 +111,13 @@ refusalNumber NotNext = 8
 refusalNumber HoldsActive = 9
 
 pub data Answer : Type 0 where
-  refused : ℕ → Answer
+  refused : (number : ℕ) → Answer
   done : Answer
-  slot : ℕ → Answer
-  freed : ℕ → Answer
-  request : (head claims : ℕ) (missing : List ℕ) → Answer
+  slot : (i : BlockSlot) → Answer
+  freed : (blocks : ℕ) → Answer
+  request : (head : HeadSlot) (claims : Sequence) (missing : Hash) → Answer
   noneDue : Answer
-  dueAt : ℕ → Answer
+  dueAt : (time : Time) → Answer
   neverDue : Answer
 
 abbrev pub outcomeSaid : Outcome → Answer
@@ -132,7 +132,7 @@ abbrev pub removedSaid : Removed → Answer
 removedSaid (removed.Freed blocks) = freed blocks
 removedSaid (removed.Refused why) = refused (refusalNumber why)
 
-abbrev pub timedSaid : Timed → List ℕ → Answer
+abbrev pub timedSaid : Timed → (missing : Hash) → Answer
 timedSaid (timed.Request head sequence) missing = request (head .0) (sequence .0) missing
 timedSaid timed.NoneDue missing = noneDue
 timedSaid (timed.Refused why) missing = refused (refusalNumber why)
@@ -141,7 +141,7 @@ abbrev pub timerSaid : TimerAnswer → Answer
 timerSaid answer = timedSaid (answer .timed) (answer .missing)
 
 -- the hash beside a timer's answer: that of the request, zeros where there is none
-abbrev pub hashAsked : Answer → List ℕ
+abbrev pub hashAsked : Answer → Hash
 hashAsked (request head claims missing) = missing
 hashAsked (refused number) = zeroHash
 hashAsked done = zeroHash

@@ -1,4 +1,5 @@
 pub mod Common
+pub mod Kinds
 pub mod Hashes
 pub mod Records
 pub mod BlockTable

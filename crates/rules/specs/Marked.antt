@@ -1,17 +1,16 @@
 -- The values that 01 marks for proof ("One trial whole"), each as a definition gives it beside what 01 says.
-use mathlib.Core.Bool.{Bool, true, false, _&&_}
+use mathlib.Core.Bool.{Bool, true, _&&_}
 use mathlib.Core.List.{List, [], _∷_}
 use Prim.Native.Nat.{ℕ}
 use lib.Dec.{eqb}
 use lib.IntN.{pos, negsuc}
 use lib.ListN.{replicate}
-use Rattle.rules.specs.Common.{if_then_else_}
 use Rattle.rules.specs.Hashes.{hashLength}
 use Rattle.rules.specs.Records.{statusOf, statusNumber}
 use Rattle.rules.specs.BlockTable.{adjusted}
 use Rattle.rules.specs.Timer.{due, claimed, maxTime}
 use Rattle.rules.specs.Answers.{Answer, refused, done, slot, freed, request, noneDue, dueAt, neverDue}
-use Rattle.rules.specs.Calls.{State, Stepped, freshState, fresh, admit}
+use Rattle.rules.specs.Calls.{freshState, fresh, admit}
 use Rattle.rules.specs.declared.BlockStatus.the-variants.{Stored}
 
 -- a value as given, and as it should be

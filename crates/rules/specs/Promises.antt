@@ -8,115 +8,105 @@ use mathlib.Core.Option.{Option, none, some}
 use Prim.Native.Nat.{ℕ, suc, _%_, _≤_, max}
 use lib.Dec.{eqb}
 use lib.ListN.{length, getD}
+use Rattle.rules.specs.Kinds.{BlockSlot, HeadSlot, Sequence, Time, Hash}
 use Rattle.rules.specs.Common.{if_then_else_, isAt, countBelow}
 use Rattle.rules.specs.Hashes.{hashAt}
-use Rattle.rules.specs.Records.{NONE, Blocks, Heads, Tables, emptyBlock, emptyHead, blockAt}
+use Rattle.rules.specs.Records.{NONE, Blocks, Tables, emptyBlock, emptyHead, blockAt, headAt}
 use Rattle.rules.specs.Caches.{slotOfHead}
 use Rattle.rules.specs.Eviction.{victim}
 use Rattle.rules.specs.Admission.{oneMore, firstEmpty}
 use Rattle.rules.specs.Rebuild.{isLeaf, rebuiltBelow, headless}
 use Rattle.rules.specs.Answers.{Answer, refused, done, slot, freed, request, noneDue, dueAt, neverDue}
-use Rattle.rules.specs.Calls.{State, Call, admitCall, promoteCall, removeCall, timerCall, restartCall, step, run, shaped, blocksIn, headsIn, parentFound, inserted}
-use Rattle.rules.specs.declared.Head.{Head}
+use Rattle.rules.specs.Calls.{State, Call, admitCall, promoteCall, removeCall, timerCall, restartCall, step, run, shaped, parentFound, inserted, fresh}
+use Rattle.rules.specs.BlockTable.{maxCount}
 
 -- ---- the tables, slot by slot
 
-abbrev pub sequence : State → ℕ → ℕ
+abbrev pub sequence : (s : State) (i : BlockSlot) → Sequence
 sequence s i = getD (s .tables .blocks .sequences) i NONE
 
-abbrev pub parent : State → ℕ → ℕ
+abbrev pub parent : (s : State) (i : BlockSlot) → BlockSlot
 parent s i = getD (s .tables .blocks .parents) i NONE
 
-abbrev pub count : State → ℕ → ℕ
+abbrev pub count : (s : State) (i : BlockSlot) → ℕ
 count s i = getD (s .tables .blocks .counts) i 0
 
-abbrev pub Occupied : State → ℕ → Type 0
+abbrev pub Occupied : (s : State) (i : BlockSlot) → Type 0
 Occupied s i = sequence s i ≢ NONE
 
 -- bit 0 of the flags
-abbrev pub Active : State → ℕ → Type 0
+abbrev pub Active : (s : State) (i : BlockSlot) → Type 0
 Active s i = getD (s .tables .blocks .flags) i 0 % 2 ≡ 1
 
-abbrev pub tip : State → ℕ → ℕ
+abbrev pub tip : (s : State) (k : HeadSlot) → BlockSlot
 tip s k = getD (s .tables .heads .tips) k NONE
 
-abbrev pub InUse : State → ℕ → Type 0
+abbrev pub InUse : (s : State) (k : HeadSlot) → Type 0
 InUse s k = tip s k ≢ NONE
 
 -- the kept tail or connection slot, and the kept flag
-abbrev pub anchor : State → ℕ → ℕ
+abbrev pub anchor : (s : State) (k : HeadSlot) → BlockSlot
 anchor s k = getD (s .tables .heads .tails) k NONE
 
-abbrev pub Connected : State → ℕ → Type 0
+abbrev pub Connected : (s : State) (k : HeadSlot) → Type 0
 Connected s k = getD (s .tables .heads .connected) k 0 % 2 ≡ 1
-
-unfoldable pub headAt : Heads → ℕ → Head
-headAt h k = record {
-  tip = record { 0 = getD (h .tips) k NONE };
-  tail = record { 0 = getD (h .tails) k NONE };
-  missing = hashAt (h .missing) k;
-  requested = getD (h .requested) k 0;
-  arrival = getD (h .arrivals) k 0;
-  connected = getD (h .connected) k 0;
-}
 
 -- ---- children, heads, parent walks
 
-abbrev pub isChild : Blocks → ℕ → ℕ → Bool
+abbrev pub isChild : (b : Blocks) (i j : BlockSlot) → Bool
 isChild b i j = not (eqb (getD (b .sequences) j NONE) NONE) && eqb (getD (b .parents) j NONE) i
 
 -- how many slots hold a block whose parent slot is i
-unfoldable pub childrenOf : Blocks → ℕ → ℕ
+unfoldable pub childrenOf : (b : Blocks) (i : BlockSlot) → ℕ
 childrenOf b i = countBelow (isChild b i) (length (b .sequences))
 
-abbrev pub children : State → ℕ → ℕ
+abbrev pub children : (s : State) (i : BlockSlot) → ℕ
 children s i = childrenOf (s .tables .blocks) i
 
 -- a head in use has it as tip
-abbrev pub IsHead : State → ℕ → Type 0
-IsHead s i = (k : ℕ) × InUse s k × (tip s k ≡ i)
+abbrev pub IsHead : (s : State) (i : BlockSlot) → Type 0
+IsHead s i = (k : HeadSlot) × InUse s k × (tip s k ≡ i)
 
 -- the visits of a block's parent walk: the block, then those of its parent, if that is a block
-pub data Walk (s : State) : ℕ → List ℕ → Type 0 where
-  ends : (i : ℕ) → Occupied s i → ¬ (Occupied s (parent s i)) → Walk s i (i ∷ [])
-  goes : (i : ℕ) (visits : List ℕ) → Occupied s i → Walk s (parent s i) visits → Walk s i (i ∷ visits)
+pub data Walk (s : State) : BlockSlot → List BlockSlot → Type 0 where
+  ends : (i : BlockSlot) → Occupied s i → ¬ (Occupied s (parent s i)) → Walk s i (i ∷ [])
+  goes : (i : BlockSlot) (visits : List BlockSlot) → Occupied s i → Walk s (parent s i) visits → Walk s i (i ∷ visits)
 
-pub data Among (a : ℕ) : List ℕ → Type 0 where
-  first : (visits : List ℕ) → Among a (a ∷ visits)
-  further : (i : ℕ) (visits : List ℕ) → Among a visits → Among a (i ∷ visits)
+pub data Among (a : BlockSlot) : List BlockSlot → Type 0 where
+  first : (visits : List BlockSlot) → Among a (a ∷ visits)
+  further : (i : BlockSlot) (visits : List BlockSlot) → Among a visits → Among a (i ∷ visits)
 
-abbrev pub MeetsActive : State → List ℕ → Type 0
-MeetsActive s visits = (a : ℕ) × Among a visits × Active s a
+abbrev pub MeetsActive : (s : State) (visits : List BlockSlot) → Type 0
+MeetsActive s visits = (a : BlockSlot) × Among a visits × Active s a
 
-pub data FirstActive (s : State) (a : ℕ) : List ℕ → Type 0 where
-  here : (visits : List ℕ) → Active s a → FirstActive s a (a ∷ visits)
-  after : (i : ℕ) (visits : List ℕ) → ¬ (Active s i) → FirstActive s a visits → FirstActive s a (i ∷ visits)
+pub data FirstActive (s : State) (a : BlockSlot) : List BlockSlot → Type 0 where
+  here : (visits : List BlockSlot) → Active s a → FirstActive s a (a ∷ visits)
+  after : (i : BlockSlot) (visits : List BlockSlot) → ¬ (Active s i) → FirstActive s a visits → FirstActive s a (i ∷ visits)
 
-pub data Last (a : ℕ) : List ℕ → Type 0 where
+pub data Last (a : BlockSlot) : List BlockSlot → Type 0 where
   only : Last a (a ∷ [])
-  behind : (i : ℕ) (visits : List ℕ) → Last a visits → Last a (i ∷ visits)
+  behind : (i : BlockSlot) (visits : List BlockSlot) → Last a visits → Last a (i ∷ visits)
 
 -- the head is connected exactly when its walk meets an active block; its anchor is the first such block, or else the last block of the walk
-pub record Anchored (s : State) (k : ℕ) : Type 0 where
-  pub visits : List ℕ
+pub record Anchored (s : State) (k : HeadSlot) : Type 0 where
+  pub visits : List BlockSlot
   pub walk : Walk s (tip s k) visits
-  pub few : length visits ≤ blocksIn (s .tables)
   pub connected : Connected s k ↔ MeetsActive s visits
   pub atFirst : MeetsActive s visits → FirstActive s (anchor s k) visits
   pub orLast : ¬ (MeetsActive s visits) → Last (anchor s k) visits
 
 -- the line from the record down: from an active block on it to its parent, where that is active too
-pub data OnLine (s : State) : ℕ → Type 0 where
+pub data OnLine (s : State) : BlockSlot → Type 0 where
   start : Active s (s .activeHead) → OnLine s (s .activeHead)
-  down : (i : ℕ) → OnLine s i → Active s (parent s i) → OnLine s (parent s i)
+  down : (i : BlockSlot) → OnLine s i → Active s (parent s i) → OnLine s (parent s i)
 
 -- ---- what a block is called, and what was said of it
 
 pub record Name : Type 0 where
-  pub sequence : ℕ
-  pub hash : List ℕ
+  pub sequence : Sequence
+  pub hash : Hash
 
-abbrev pub name : State → ℕ → Name
+abbrev pub name : (s : State) (i : BlockSlot) → Name
 name s i = record { sequence = sequence s i; hash = hashAt (s .tables .blocks .hashes) i }
 
 -- a call of a list with its answer
@@ -132,11 +122,11 @@ abbrev pub Accepted : Answer → Type 0
 Accepted answer = (number : ℕ) → answer ≢ refused number
 
 -- an accepted promotion named the slot
-pub data Promoted (i : ℕ) : List Made → Type 0 where
+pub data Promoted (i : BlockSlot) : List Made → Type 0 where
   accepts : (answer : Answer) (log : List Made) → Accepted answer → Promoted i (record { call = promoteCall i; answer = answer } ∷ log)
   later : (made : Made) (log : List Made) → Promoted i log → Promoted i (made ∷ log)
 
-abbrev pub slotReturned : Answer → Option ℕ
+abbrev pub slotReturned : Answer → Option BlockSlot
 slotReturned (refused number) = none
 slotReturned done = none
 slotReturned (slot i) = some i
@@ -154,7 +144,7 @@ nameGiven (timerCall time span) = none
 nameGiven (restartCall time) = none
 
 -- the name given by the last accepted admit that returned slot i; `was` where the log has none
-unfoldable pub lastAdmitted : ℕ → Option Name → List Made → Option Name
+unfoldable pub lastAdmitted : (i : BlockSlot) (was : Option Name) (log : List Made) → Option Name
 lastAdmitted i was [] = was
 lastAdmitted i was (made ∷ log) = lastAdmitted i (if isAt (slotReturned (made .answer)) i then nameGiven (made .call) else was) log
 
@@ -164,24 +154,24 @@ lastAdmitted i was (made ∷ log) = lastAdmitted i (if isAt (slotReturned (made 
 -- where there is no parent, `fork` and `rebuildAt`
 pub data Inserts (s : State) : Call → Tables → Type 0 where
   -- an admitted block without parent: it counts 1
-  root : (given : ℕ) (hash previous : List ℕ) (arrival i : ℕ) → step s (admitCall given hash previous arrival) .answer ≡ slot i
+  root : (given : Sequence) (hash previous : Hash) (arrival : Time) (i : BlockSlot) → step s (admitCall given hash previous arrival) .answer ≡ slot i
       → parentFound s given previous ≡ none
       → Inserts s (admitCall given hash previous arrival) (oneMore (inserted s i given hash previous) i)
   -- one whose parent is no head: it counts 1, and the parent one more
-  fork : (given : ℕ) (hash previous : List ℕ) (arrival i p : ℕ) → step s (admitCall given hash previous arrival) .answer ≡ slot i
+  fork : (given : Sequence) (hash previous : Hash) (arrival : Time) (i p : BlockSlot) → step s (admitCall given hash previous arrival) .answer ≡ slot i
       → parentFound s given previous ≡ some p → slotOfHead (s .tables .heads .tips) p ≡ none
       → Inserts s (admitCall given hash previous arrival) (oneMore (oneMore (inserted s i given hash previous) i) p)
   -- a childless block of a restart: the slots below it have their heads
-  again : (now i : ℕ) → step s (restartCall now) .answer ≡ done
+  again : (now : Time) (i : BlockSlot) → step s (restartCall now) .answer ≡ done
       → isLeaf (rebuiltBelow i (headless (s .tables)) now (s .activeHead)) i ≡ true
       → Inserts s (restartCall now) (rebuiltBelow i (headless (s .tables)) now (s .activeHead))
 
 -- where no head slot is empty there is a victim
-abbrev pub VictimIfFull : Tables → ℕ → Type 0
+abbrev pub VictimIfFull : (t : Tables) (activeHead : BlockSlot) → Type 0
 VictimIfFull t activeHead = firstEmpty (t .heads .tips) ≡ none → victim (t .blocks .hashes) (t .blocks .sequences) (t .heads .tips) activeHead ≢ none
 
 -- a call that looks for a victim finds one
-abbrev pub FindsVictims : State → Call → Type 0
+abbrev pub FindsVictims : (s : State) (call : Call) → Type 0
 FindsVictims s call = (t : Tables) → Inserts s call t → VictimIfFull t (s .activeHead)
 
 -- ---- the promises
@@ -190,50 +180,58 @@ FindsVictims s call = (t : Tables) → Inserts s call t → VictimIfFull t (s .a
 pub record Tree (s : State) : Type 0 where
   pub shape : shaped (s .tables) ≡ true
   -- a parent is an occupied slot, one lower in sequence
-  pub parents : (i : ℕ) → Occupied s i → (parent s i ≡ NONE) ⊎ (Occupied s (parent s i) × (suc (sequence s (parent s i)) ≡ sequence s i))
+  pub parents : (i : BlockSlot) → Occupied s i → (parent s i ≡ NONE) ⊎ (Occupied s (parent s i) × (suc (sequence s (parent s i)) ≡ sequence s i))
   -- the active blocks are one unbroken line of parents that ends at the record
-  pub line : (i : ℕ) → Active s i → Occupied s i × OnLine s i
-  pub top : (s .activeHead ≡ NONE) ⊎ Active s (s .activeHead)
+  pub line : (i : BlockSlot) → Active s i → Occupied s i × OnLine s i
+  pub activeHead : (s .activeHead ≡ NONE) ⊎ Active s (s .activeHead)
   -- no two occupied blocks share sequence and hash
-  pub names : (i j : ℕ) → Occupied s i → Occupied s j → name s i ≡ name s j → i ≡ j
+  pub names : (i j : BlockSlot) → Occupied s i → Occupied s j → name s i ≡ name s j → i ≡ j
   -- an empty slot is the fixed record
-  pub emptySlots : (i : ℕ) → ¬ (Occupied s i) → blockAt (s .tables .blocks) i ≡ emptyBlock
+  pub emptySlots : (i : BlockSlot) → ¬ (Occupied s i) → blockAt (s .tables .blocks) i ≡ emptyBlock
 
 -- of a state
 pub record Sound (s : State) : Type 0 where
   pub tree : Tree s
   -- each occupied block off the active chain counts max(1, its children) and is a head exactly when it has no child
-  pub counts : (i : ℕ) → Occupied s i → ¬ (Active s i) → count s i ≡ max 1 (children s i)
-  pub heads : (i : ℕ) → Occupied s i → ¬ (Active s i) → IsHead s i ↔ (children s i ≡ 0)
+  pub counts : (i : BlockSlot) → Occupied s i → ¬ (Active s i) → count s i ≡ max 1 (children s i)
+  pub heads : (i : BlockSlot) → Occupied s i → ¬ (Active s i) → IsHead s i ↔ (children s i ≡ 0)
   -- all tips in use are occupied, childless and different
-  pub tips : (k : ℕ) → InUse s k → Occupied s (tip s k) × (children s (tip s k) ≡ 0)
-  pub different : (j k : ℕ) → InUse s j → InUse s k → tip s j ≡ tip s k → j ≡ k
+  pub tips : (k : HeadSlot) → InUse s k → Occupied s (tip s k) × (children s (tip s k) ≡ 0)
+  pub different : (j k : HeadSlot) → InUse s j → InUse s k → tip s j ≡ tip s k → j ≡ k
   -- each head is connected exactly when its walk meets an active block, and anchored there or at the walk's last block
-  pub anchored : (k : ℕ) → InUse s k → Anchored s k
+  pub anchored : (k : HeadSlot) → InUse s k → Anchored s k
   -- an empty head is the fixed record
-  pub emptyHeads : (k : ℕ) → ¬ (InUse s k) → headAt (s .tables .heads) k ≡ emptyHead
-  -- a block has no more children than there are heads, and one more
-  pub few : (i : ℕ) → Occupied s i → children s i ≤ suc (headsIn (s .tables))
+  pub emptyHeads : (k : HeadSlot) → ¬ (InUse s k) → headAt (s .tables .heads) k ≡ emptyHead
 
 -- of a state and the calls that led to it
 pub record Recorded (log : List Made) (s : State) : Type 0 where
   -- bit 0 is set exactly on the slots that accepted promotions named
-  pub promoted : (i : ℕ) → Active s i ↔ Promoted i log
+  pub promoted : (i : BlockSlot) → Active s i ↔ Promoted i log
   -- each occupied slot holds the sequence and hash of the last accepted admit that returned it
-  pub admitted : (i : ℕ) → Occupied s i → lastAdmitted i none log ≡ some (name s i)
+  pub admitted : (i : BlockSlot) → Occupied s i → lastAdmitted i none log ≡ some (name s i)
 
 -- of a list of calls from s, to which the log has led
 pub record Promise (log : List Made) (s : State) (calls : List Call) : Type 0 where
   pub sound : Sound (run s calls)
   pub recorded : Recorded (log ++ made s calls) (run s calls)
   -- a promoted block is never freed and keeps slot, sequence and hash
-  pub stays : (more : List Call) (i : ℕ) → Promoted i (log ++ made s calls)
+  pub stays : (more : List Call) (i : BlockSlot) → Promoted i (log ++ made s calls)
       → Occupied (run s (calls ++ more)) i × Active (run s (calls ++ more)) i × (name (run s (calls ++ more)) i ≡ name (run s calls) i)
   -- whichever call is made next finds a victim when it looks for one
   pub victims : (call : Call) → FindsVictims (run s calls) call
 
 -- of a restart from blocks whose counts, and heads, may be anything
-pub record Mended (s : State) (now : ℕ) : Type 0 where
+pub record Mended (s : State) (now : Time) : Type 0 where
   pub sound : Sound (step s (restartCall now) .after)
-  pub stays : (i : ℕ) → Active s i → Active (step s (restartCall now) .after) i × (name (step s (restartCall now) .after) i ≡ name s i)
+  pub stays : (i : BlockSlot) → Active s i → Active (step s (restartCall now) .after) i × (name (step s (restartCall now) .after) i ≡ name s i)
   pub victims : FindsVictims s (restartCall now)
+
+-- ---- what is proved
+
+-- demand 3: every list of calls from what an accepted fresh left
+abbrev pub Demand3 : Type 0
+Demand3 = (s : State) → Accepted (fresh s .answer) → (calls : List Call) → Promise [] (fresh s .after) calls
+
+-- a restart mends every tree, whatever its counts and heads, in which no block has more children than a count can say
+abbrev pub RestartMends : Type 0
+RestartMends = (s : State) → Tree s → ((i : BlockSlot) → Occupied s i → children s i ≤ maxCount) → (now : Time) → Mended s now

@@ -2,7 +2,8 @@
 ghost use mathlib.Core.Path.{_≡_};
 ghost use Rattle.rules.specs.Records.{emptyBlock, emptyHead};
 
-// A place in the block table.
+// A place in the block table; laid out for C, as the record of the active head holds one.
+#[repr(C)]
 pub struct BlockSlot(pub u32);
 
 // A place in the head table.
@@ -24,6 +25,7 @@ impl Sequence {
     pub const NONE_REF: Sequence = Sequence(4294967295);
 }
 
+// A block: bit 0 of its flags says that it is on the active chain, bits 1 and 2 are its status.
 pub struct Block {
     pub hash: [u8; 32],
     pub parent: BlockSlot,
@@ -33,6 +35,7 @@ pub struct Block {
 }
 
 impl Block {
+    // The fixed record of an empty slot: parent and sequence NONE_REF, all else zero.
     pub fn empty() -> Block
         ensures { λ r. ⌜ r ≡ emptyBlock ⌝ }
     {
@@ -46,6 +49,7 @@ impl Block {
     }
 }
 
+// A head: its tail or connection slot stands in `tail`, its last request time in `requested`, its flag in bit 0 of `connected`.
 pub struct Head {
     pub tip: BlockSlot,
     pub tail: BlockSlot,
@@ -56,6 +60,7 @@ pub struct Head {
 }
 
 impl Head {
+    // The fixed record of an empty head: tip and tail NONE_REF, all else zero.
     pub fn empty() -> Head
         ensures { λ r. ⌜ r ≡ emptyHead ⌝ }
     {
@@ -70,6 +75,7 @@ impl Head {
     }
 }
 
+// What bits 1 and 2 of a block's flags say: 0, 1 and 2 in this order; 3 reads as Stored.
 pub enum BlockStatus {
     Stored,
     Connected,
@@ -162,6 +168,18 @@ pub enum Outcome {
     Refused(Refusal),
 }
 
+// The record: the slot of the active head, or NONE_REF.
+#[repr(C)]
+pub struct ActiveHead {
+    pub slot: BlockSlot,
+}
+
+// The answer of a call that may set the record, and what the record then holds.
+pub struct Recorded {
+    pub outcome: Outcome,
+    pub active: BlockSlot,
+}
+
 // The answer of admit.
 pub enum Admitted {
     Slot(BlockSlot),
@@ -181,6 +199,7 @@ pub enum Timed {
     Refused(Refusal),
 }
 
+// The answer of timer with the hash that is asked for beside it, zeros where nothing is.
 pub struct TimerAnswer {
     pub timed: Timed,
     pub missing: [u8; 32],

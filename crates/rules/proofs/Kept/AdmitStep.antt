@@ -19,30 +19,30 @@ use Rattle.rules.proofs.Splits.{split, same?, option?, not-some, and-tr
 use Rattle.rules.proofs.Search.{lowest-holds, lowest-misses}
 use Rattle.rules.proofs.Hashes.{same-refl}
 use Rattle.rules.proofs.Refusals.{Free, admit?}
-use Rattle.rules.proofs.Kept.Table.{seqOf, hashOf, holds, Shape, holds-lt, ne-holds, kids-slots}
+use Rattle.rules.proofs.Kept.Table.{seqOf, hashOf, isOccupied, Shape, occupied-lt, ne-occupied, kids-slots}
 use Rattle.rules.proofs.Kept.Frame.{Good, All}
 use Rattle.rules.proofs.Kept.Insert.{Fits}
 use Rattle.rules.proofs.Kept.Admit.{Admitted, admit-done}
-use Rattle.rules.proofs.Kept.Walked.{blocksOf, headsOf}
+use Rattle.rules.proofs.Kept.Walked.{itsBlocks, itsHeads}
 use Rattle.rules.proofs.Kept.Border.{sound-good, good-sound}
-use Rattle.rules.proofs.Kept.Went.{other-name, Went, active-stays, active-was, line-on, top-on, turned-away}
+use Rattle.rules.proofs.Kept.Went.{other-name, Went, active-stays, active-was, line-on, active-head-on, turned-away}
 
 -- ---- what was found
 
 module _ (t : Blocks) (q : ℕ) (hash : List ℕ) (i : ℕ) where
-  block-is : isBlock (t .hashes) (t .sequences) q hash i ≡ true → (holds t i ≡ true) × (seqOf t i ≡ q)
+  block-is : isBlock (t .hashes) (t .sequences) q hash i ≡ true → (isOccupied t i ≡ true) × (seqOf t i ≡ q)
   unfolding isBlock
   block-is e =
-      let c = and-true (holds t i && eqb (seqOf t i) q) (sameHash (hashOf t i) hash) e in
-      let d = and-true (holds t i) (eqb (seqOf t i) q) (c .0) in
+      let c = and-true (isOccupied t i && eqb (seqOf t i) q) (sameHash (hashOf t i) hash) e in
+      let d = and-true (isOccupied t i) (eqb (seqOf t i) q) (c .0) in
       (d .0, eqb-true (seqOf t i) q (d .1))
 
-  is-block : holds t i ≡ true → seqOf t i ≡ q → hashOf t i ≡ hash → isBlock (t .hashes) (t .sequences) q hash i ≡ true
+  is-block : isOccupied t i ≡ true → seqOf t i ≡ q → hashOf t i ≡ hash → isBlock (t .hashes) (t .sequences) q hash i ≡ true
   unfolding isBlock
   is-block o e h = rw (o, eq-eqb (seqOf t i) q e, h, same-refl hash) refl
 
 -- a parent stands one lower
-pub parent-is : (t : Blocks) (q : ℕ) (previous : List ℕ) (i : ℕ) → findParent (t .hashes) (t .sequences) previous q ≡ some i → (holds t i ≡ true) × (suc (seqOf t i) ≡ q)
+pub parent-is : (t : Blocks) (q : ℕ) (previous : List ℕ) (i : ℕ) → findParent (t .hashes) (t .sequences) q previous ≡ some i → (isOccupied t i ≡ true) × (suc (seqOf t i) ≡ q)
 unfolding findParent find
 parent-is t q previous i e = same? q 0
     (λ z. some-not-none {o = none} {i = i} (rw (eq-eqb q 0 z) at e) refl)
@@ -52,8 +52,8 @@ parent-is t q previous i e = same? q 0
     let r = c .1 in
     (c .0, omega arith))
 
-parent-fits : (t : Blocks) (q : ℕ) (previous : List ℕ) → let p = slotOrNone (findParent (t .hashes) (t .sequences) previous q) in (p ≡ NONE) ⊎ ((holds t p ≡ true) × (suc (seqOf t p) ≡ q))
-parent-fits t q previous = option? (findParent (t .hashes) (t .sequences) previous q)
+parent-fits : (t : Blocks) (q : ℕ) (previous : List ℕ) → let p = slotOrNone (findParent (t .hashes) (t .sequences) q previous) in (p ≡ NONE) ⊎ ((isOccupied t p ≡ true) × (suc (seqOf t p) ≡ q))
+parent-fits t q previous = option? (findParent (t .hashes) (t .sequences) q previous)
     (λ e. rw e (inl refl))
     (λ i e. rw e (inr (parent-is t q previous i e)))
 
@@ -61,21 +61,21 @@ parent-fits t q previous = option? (findParent (t .hashes) (t .sequences) previo
 
 module _ (s : State) (q : ℕ) (hash previous : List ℕ) (arrival x : ℕ) (z : Sound s) (k : Free s q hash x) where
   abbrev t : Blocks
-  t = blocksOf s
+  t = itsBlocks s
 
-  g : Good t (headsOf s) (s .activeHead) All
+  g : Good t (itsHeads s) (s .activeHead) All
   g = sound-good s z
 
   sh : Shape t
   sh = g .frame .counts .shape
 
-  pub fits : Fits t x q hash (slotOrNone (findParent (t .hashes) (t .sequences) previous q))
+  pub fits : Fits t x q hash (slotOrNone (findParent (t .hashes) (t .sequences) q previous))
   unfolding nextFree
   fits =
-      let b = lowest-holds (λ i. not (holds t i)) (slotsOf (t .sequences)) x (k .next) in
+      let b = lowest-holds (λ i. not (isOccupied t i)) (slotsOf (t .sequences)) x (k .next) in
       record {
         inside = rw (kids-slots t sh) at (b .0);
-        free = not-true (holds t x) (b .1);
+        free = not-true (isOccupied t x) (b .1);
         seqOk = k .real;
         len = k .len;
         parentOk = parent-fits t q previous;
@@ -86,12 +86,12 @@ module _ (s : State) (q : ℕ) (hash previous : List ℕ) (arrival x : ℕ) (z :
 
   d : Admitted t (s .activeHead) x q hash w
   unfolding admitAt
-  d = admit-done t (headsOf s) (s .activeHead) x q hash (findParent (t .hashes) (t .sequences) previous q) previous arrival g fits (λ i e. parent-is t q previous i e .0)
+  d = admit-done t (itsHeads s) (s .activeHead) x q hash (findParent (t .hashes) (t .sequences) q previous) previous arrival g fits (λ i e. parent-is t q previous i e .0)
 
   abbrev u : State
   u = keeping s w
 
-  -- another slot holds what it held
+  -- another slot isOccupied what it held
   other : (i : ℕ) → i ≢ x → Occupied u i → Occupied s i × (name u i ≡ name s i)
   other = other-name s (z .tree .line) sh w x (fits .free) (d .steady)
 
@@ -108,10 +108,10 @@ module _ (s : State) (q : ℕ) (hash previous : List ℕ) (arrival x : ℕ) (z :
   foreign j ne o e =
       let p = other j ne o in
       let n : name s j ≡ given-name = sym (p .1) ∙ e in
-      let oj = ne-holds t j (p .0) in
+      let oj = ne-occupied t j (p .0) in
       true-not-false {b = isBlock (t .hashes) (t .sequences) q hash j}
       (is-block t q hash j oj (ap (λ (y : Name). y .sequence) n) (ap (λ (y : Name). y .hash) n))
-      (lowest-misses (isBlock (t .hashes) (t .sequences) q hash) (slotsOf (t .sequences)) j (not-some (find (t .hashes) (t .sequences) q hash) (k .unknown)) (rw (kids-slots t sh) (holds-lt t j oj)))
+      (lowest-misses (isBlock (t .hashes) (t .sequences) q hash) (slotsOf (t .sequences)) j (not-some (find (t .hashes) (t .sequences) q hash) (k .unknown)) (rw (kids-slots t sh) (occupied-lt t j oj)))
 
   names : (i j : ℕ) → Occupied u i → Occupied u j → name u i ≡ name u j → i ≡ j
   names i j oi oj e = same? i x
@@ -132,7 +132,7 @@ module _ (s : State) (q : ℕ) (hash previous : List ℕ) (arrival x : ℕ) (z :
       let y = d .steady in
       let v = d .good .frame .voids in
       record {
-        sound = good-sound u (d .good) (line-on s (z .tree .line) sh w x free y v) (top-on s (z .tree .line) sh w x free y (z .tree .top)) names;
+        sound = good-sound u (d .good) (line-on s (z .tree .line) sh w x free y v) (active-head-on s (z .tree .line) sh w x free y (z .tree .activeHead)) names;
         stays = active-stays s (z .tree .line) sh w x free y;
         new = λ i e _. let c : _≡_ {A = ℕ} 0 1 = cc in absurd (omega arith);
         only = λ i a. inl (active-was s (z .tree .line) sh w x free y v i a);

@@ -9,7 +9,7 @@ use lib.ListN.{length, getD, set, length-set, length-replicate}
 use lib.Seq.{sets, getD-set-same, getD-set-other, length-sets}
 use Rattle.rules.specs.Hashes.{hashAt, putHash, hashLength, zeroHash}
 use Rattle.rules.proofs.Splits.{less?}
-use Rattle.rules.proofs.Hashes.{bytes-length, bytes-at, hash-is}
+use Rattle.rules.proofs.Hashes.{hash-length, bytes-at, hash-is}
 
 pub sets-before : (vs l : List ℕ) (a k : ℕ) → k < a → getD (sets l a vs) k 0 ≡ getD l k 0
 sets-before [] l a k h = refl
@@ -26,10 +26,6 @@ sets-at (v ∷ vs) l a zero h n =
 sets-at (v ∷ vs) l a (suc k) h n =
     let e : a + suc k ≡ suc a + k = omega arith in
     rw e (sets-at vs (set l a v) (suc a) k (omega (arith, length-set l a v)) (omega arith))
-
-pub hash-length : (bytes : List ℕ) (i : ℕ) → length (hashAt bytes i) ≡ hashLength
-unfolding hashAt
-hash-length bytes i = bytes-length bytes (i * hashLength) hashLength
 
 module _ (bytes hash : List ℕ) (i : ℕ) (len : length hash ≡ hashLength) where
   pub put-hash-other : (j : ℕ) → j ≢ i → hashAt (putHash bytes i hash) j ≡ hashAt bytes j

@@ -8,12 +8,11 @@ use lib.ListN.{length, getD, set, length-set}
 use lib.Seq.{getD-set-same, getD-set-other}
 use borrow.Author.Tests.{eq-eqb, ne-eqb}
 use Rattle.rules.specs.Hashes.{hashLength, hashAt, zeroHash}
-use Rattle.rules.specs.Records.{NONE, Blocks, Heads, bit0, withBit0}
+use Rattle.rules.specs.Records.{NONE, Blocks, Heads, bit0, withBit0, caches, withCaches, withTips, withArrivals, headAt}
 use Rattle.rules.specs.Anchor.{Anchor, connection, tail}
-use Rattle.rules.specs.Caches.{caches, withCaches, keep, recompute, recomputeHead, knowing, missingPart}
-use Rattle.rules.specs.Admission.{withTips, withArrivals}
-use Rattle.rules.specs.Promises.{headAt}
-use Rattle.rules.proofs.Kept.Bytes.{put-hash-other, put-hash-length, zero-length, hash-length}
+use Rattle.rules.specs.Caches.{keep, recompute, recomputeHead, knowing, missingPart}
+use Rattle.rules.proofs.Hashes.{hash-length}
+use Rattle.rules.proofs.Kept.Bytes.{put-hash-other, put-hash-length, zero-length}
 use Rattle.rules.proofs.Kept.Ends.{located}
 use Rattle.rules.proofs.Kept.Seats.{room, tipOf, kept, keptBy, anchorOf, Room, Seat}
 

@@ -6,9 +6,8 @@ use mathlib.Core.Option.{Option}
 use Prim.Native.Nat.{ℕ, zero, suc, _≤_, _<_}
 use native.Mathlib.Omega.{arith}
 use Rattle.rules.specs.Common.{isAt, inOrder}
-use Rattle.rules.specs.Records.{NONE, Heads, emptyHead}
+use Rattle.rules.specs.Records.{NONE, Heads, emptyHead, headAt}
 use Rattle.rules.specs.Removal.{headFreed, dropHead}
-use Rattle.rules.specs.Promises.{headAt}
 use Rattle.rules.proofs.Splits.{split, same?}
 use Rattle.rules.proofs.Kept.Bytes.{zero-length}
 use Rattle.rules.proofs.Kept.Seats.{same-head, room, tipOf, Room, Seat, clear-seat, put-head}

@@ -5,13 +5,12 @@ use Prim.Native.Nat.{ℕ, _+_, _*_, _≤_}
 use native.Mathlib.Omega.{arith}
 use lib.ListN.{getD, replicate, length-replicate, getD-replicate, List·getD-eq-default}
 use Rattle.rules.specs.Hashes.{hashAt, hashLength, zeroHash}
-use Rattle.rules.specs.Records.{NONE, emptyBlock, emptyHead, blockAt}
-use Rattle.rules.specs.Rebuild.{emptyBlocks, emptyHeads}
-use Rattle.rules.specs.Promises.{headAt}
+use Rattle.rules.specs.Records.{NONE, emptyBlock, emptyHead, blockAt, emptyBlocks, emptyHeads, headAt}
+use Rattle.rules.specs.Calls.{maxBlocks, minHeads, maxHeads}
 use Rattle.rules.proofs.Splits.{less?}
 use Rattle.rules.proofs.Hashes.{hash-is}
 use Rattle.rules.proofs.Kept.Bytes.{zero-length}
-use Rattle.rules.proofs.Kept.Table.{holds, Shape, holds-ne}
+use Rattle.rules.proofs.Kept.Table.{isOccupied, Shape, occupied-ne}
 use Rattle.rules.proofs.Kept.Seats.{room, inUse, Room, use-ne}
 
 -- every cell of a list of defaults is the default
@@ -28,11 +27,11 @@ module _ (n : ℕ) where
   unfolding emptyBlocks blockAt
   no-block i = rw (same-hashes (n * hashLength) i, same-cells n i NONE, same-cells n i 0) refl
 
-  pub none-held : (i : ℕ) → holds (emptyBlocks n) i ≡ true → ⊥
+  pub none-held : (i : ℕ) → isOccupied (emptyBlocks n) i ≡ true → ⊥
   unfolding emptyBlocks
-  none-held i o = holds-ne (emptyBlocks n) i o (same-cells n i NONE)
+  none-held i o = occupied-ne (emptyBlocks n) i o (same-cells n i NONE)
 
-  pub empty-shape : 1 ≤ n → n ≤ 1024 → Shape (emptyBlocks n)
+  pub empty-shape : 1 ≤ n → n ≤ maxBlocks → Shape (emptyBlocks n)
   unfolding emptyBlocks
   empty-shape a b =
       let e = length-replicate n NONE in
@@ -59,7 +58,7 @@ module _ (m : ℕ) where
   unfolding emptyHeads
   empty-rooms = length-replicate m NONE
 
-  pub empty-room : 2 ≤ m → m ≤ 64 → Room (emptyHeads m)
+  pub empty-room : minHeads ≤ m → m ≤ maxHeads → Room (emptyHeads m)
   unfolding emptyHeads
   empty-room a b =
       let e = length-replicate m NONE in

@@ -13,13 +13,13 @@ use Rattle.rules.specs.Eviction.{blockBefore, mayGo, victim, evictFrom, 
 use Rattle.rules.specs.Promises.{childrenOf}
 use Rattle.rules.proofs.Splits.{same?, and-true, true-not-false}
 use Rattle.rules.proofs.Kept.Choice.{best-passes, best-none}
-use Rattle.rules.proofs.Kept.Table.{size, holds, Shape, kids-slots}
+use Rattle.rules.proofs.Kept.Table.{size, isOccupied, Shape, kids-slots}
 use Rattle.rules.proofs.Kept.Freed.{Owed, Freed, all-freed, freed-kept}
 use Rattle.rules.proofs.Kept.Steady.{freed-leaf, freed-back, freed-active, freed-childless, freed-ends}
 use Rattle.rules.proofs.Kept.Seats.{room, tipOf, inUse, kept, Room, head-slots, clear-seat, clear-other, clear-blanks, seat-tip, seat-use, seat-kept}
 use Rattle.rules.proofs.Kept.Frame.{Good, Apart}
 
-module _ (t : Blocks) (h : Heads) (top : ℕ) (C : ℕ → Type 0) (g : Good t h top C) (v : ℕ) (uv : inUse h v ≡ true) (nv : tipOf h v ≢ top) where
+module _ (t : Blocks) (h : Heads) (activeHead : ℕ) (C : ℕ → Type 0) (g : Good t h activeHead C) (v : ℕ) (uv : inUse h v ≡ true) (nv : tipOf h v ≢ activeHead) where
   abbrev pub evicted : Blocks
   evicted = evictFrom (size t) t (tipOf h v)
 
@@ -36,11 +36,11 @@ module _ (t : Blocks) (h : Heads) (top : ℕ) (C : ℕ → Type 0) (g : Good t h
   pub trace : Freed t (tipOf h v) evicted
   trace = all-freed t (tipOf h v) owed
 
-  stays : (s : ℕ) → s ≢ v → inUse h s ≡ true → (holds evicted (tipOf h s) ≡ true) × (childrenOf evicted (tipOf h s) ≡ 0)
+  stays : (s : ℕ) → s ≢ v → inUse h s ≡ true → (isOccupied evicted (tipOf h s) ≡ true) × (childrenOf evicted (tipOf h s) ≡ 0)
   stays s ne u = let p = g .frame .tips s u in
       freed-leaf t (tipOf h v) evicted trace (tipOf h s) (λ q. ne (g .frame .apart s v u uv q)) (p .0) (p .1)
 
-  pub evict-good : Good evicted (clear h v) top C
+  pub evict-good : Good evicted (clear h v) activeHead C
   evict-good =
       let k = freed-kept t (tipOf h v) evicted trace owed in
       let tip : (s : ℕ) → s ≢ v → tipOf (clear h v) s ≡ tipOf h s = seat-tip h (clear h v) v NONE (clear-seat h v) in
@@ -76,38 +76,38 @@ module _ (t : Blocks) (h : Heads) (top : ℕ) (C : ℕ → Type 0) (g : Good t h
 
 -- ---- the victim
 
-module _ (hashes sequences tips : List ℕ) (top : ℕ) where
-  pub victim-some : (v : ℕ) → victim hashes sequences tips top ≡ some v → (used tips v ≡ true) × (tipAt tips v ≢ top)
+module _ (hashes sequences tips : List ℕ) (activeHead : ℕ) where
+  pub victim-some : (v : ℕ) → victim hashes sequences tips activeHead ≡ some v → (used tips v ≡ true) × (tipAt tips v ≢ activeHead)
   unfolding victim mayGo
   victim-some v e =
-      let b = best-passes (mayGo sequences tips top) (λ j k. blockBefore hashes sequences (tipAt tips j) (tipAt tips k)) _ v e in
-      let c = and-true (used tips v && not (eqb (tipAt tips v) top)) (occupied sequences (tipAt tips v)) (b .1) in
-      let d = and-true (used tips v) (not (eqb (tipAt tips v) top)) (c .0) in
-      (d .0, eqb-false (tipAt tips v) top (not-true (eqb (tipAt tips v) top) (d .1)))
+      let b = best-passes (mayGo sequences tips activeHead) (λ j k. blockBefore hashes sequences (tipAt tips j) (tipAt tips k)) _ v e in
+      let c = and-true (used tips v && not (eqb (tipAt tips v) activeHead)) (occupied sequences (tipAt tips v)) (b .1) in
+      let d = and-true (used tips v) (not (eqb (tipAt tips v) activeHead)) (c .0) in
+      (d .0, eqb-false (tipAt tips v) activeHead (not-true (eqb (tipAt tips v) activeHead) (d .1)))
 
-  pub victim-none : victim hashes sequences tips top ≡ none → (s : ℕ) → s < slotsOf tips → used tips s ≡ true → occupied sequences (tipAt tips s) ≡ true → tipAt tips s ≡ top
+  pub victim-none : victim hashes sequences tips activeHead ≡ none → (s : ℕ) → s < slotsOf tips → used tips s ≡ true → occupied sequences (tipAt tips s) ≡ true → tipAt tips s ≡ activeHead
   unfolding victim mayGo
-  victim-none e s l u o = same? (tipAt tips s) top (λ q. q) (λ ne.
-      true-not-false {b = mayGo sequences tips top s}
-      (rw (u, ne-eqb (tipAt tips s) top ne, o))
-      (best-none (mayGo sequences tips top) (λ j k. blockBefore hashes sequences (tipAt tips j) (tipAt tips k)) _ s e l))
+  victim-none e s l u o = same? (tipAt tips s) activeHead (λ q. q) (λ ne.
+      true-not-false {b = mayGo sequences tips activeHead s}
+      (rw (u, ne-eqb (tipAt tips s) activeHead ne, o))
+      (best-none (mayGo sequences tips activeHead) (λ j k. blockBefore hashes sequences (tipAt tips j) (tipAt tips k)) _ s e l))
 
 -- of two heads one is not the active one
-pub victim-there : (t : Blocks) (h : Heads) (top : ℕ) → Room h → Apart h → ((s : ℕ) → inUse h s ≡ true → holds t (tipOf h s) ≡ true)
-    → ((s : ℕ) → s < room h → inUse h s ≡ true) → victim (t .hashes) (t .sequences) (h .tips) top ≢ none
-victim-there t h top r apart there full e =
+pub victim-there : (t : Blocks) (h : Heads) (activeHead : ℕ) → Room h → Apart h → ((s : ℕ) → inUse h s ≡ true → isOccupied t (tipOf h s) ≡ true)
+    → ((s : ℕ) → s < room h → inUse h s ≡ true) → victim (t .hashes) (t .sequences) (h .tips) activeHead ≢ none
+victim-there t h activeHead r apart there full e =
     let n = head-slots h r in
     let m = r .two in
     let u0 = full 0 (omega arith) in
     let u1 = full 1 (omega arith) in
-    let t0 = victim-none (t .hashes) (t .sequences) (h .tips) top e 0 (omega arith) u0 (there 0 u0) in
-    let t1 = victim-none (t .hashes) (t .sequences) (h .tips) top e 1 (omega arith) u1 (there 1 u1) in
+    let t0 = victim-none (t .hashes) (t .sequences) (h .tips) activeHead e 0 (omega arith) u0 (there 0 u0) in
+    let t1 = victim-none (t .hashes) (t .sequences) (h .tips) activeHead e 1 (omega arith) u1 (there 1 u1) in
     let z : _≡_ {A = ℕ} 0 1 = apart 0 1 u0 u1 (t0 ∙ sym t1) in
     omega arith
 
 -- ---- the rule
 
-pub evict-one : (t : Blocks) (h : Heads) (top v : ℕ) → Shape t → victim (t .hashes) (t .sequences) (h .tips) top ≡ some v
-    → evictOne (record { blocks = t; heads = h }) top ≡ record { blocks = evictFrom (size t) t (tipOf h v); heads = clear h v }
+pub evict-one : (t : Blocks) (h : Heads) (activeHead v : ℕ) → Shape t → victim (t .hashes) (t .sequences) (h .tips) activeHead ≡ some v
+    → evictOne (record { blocks = t; heads = h }) activeHead ≡ record { blocks = evictFrom (size t) t (tipOf h v); heads = clear h v }
 unfolding evictOne evict
-evict-one t h top v s e = rw (e, evictOne) (rw (kids-slots t s))
+evict-one t h activeHead v s e = rw (e, evictOne) (rw (kids-slots t s))

@@ -6,14 +6,14 @@ use mathlib.Core.Option.{none, some}
 use Prim.Native.Nat.{ℕ, _<_}
 use lib.Dec.{eqb}
 use borrow.Author.Tests.{eqb-true, eq-eqb}
-use Rattle.rules.specs.Records.{NONE, Blocks, Heads, slotsOf}
+use Rattle.rules.specs.Records.{NONE, Blocks, Heads, slotsOf, headAt}
 use Rattle.rules.specs.Anchor.{Anchor, connection, tail}
 use Rattle.rules.specs.Caches.{slotOfHead}
-use Rattle.rules.specs.Promises.{childrenOf, headAt}
+use Rattle.rules.specs.Promises.{childrenOf}
 use Rattle.rules.specs.declared.Head.{Head}
 use Rattle.rules.proofs.Splits.{same?, and-true, and-both, true-not-false}
 use Rattle.rules.proofs.Search.{lowest-holds, lowest-misses}
-use Rattle.rules.proofs.Kept.Table.{parentOf, holds, onChain, Kept, holds-real}
+use Rattle.rules.proofs.Kept.Table.{parentOf, isOccupied, isActive, Kept, occupied-real}
 use Rattle.rules.proofs.Kept.Slots.{Voids}
 use Rattle.rules.proofs.Kept.Ends.{Ends}
 use Rattle.rules.proofs.Kept.Seats.{room, tipOf, inUse, kept, keptBy, Room, use-lt, head-slots, Seat, seat-tip, seat-use, seat-kept, seat-taken, Blanks, seat-blanks}
@@ -21,28 +21,28 @@ use Rattle.rules.proofs.Kept.Seats.{room, tipOf, inUse, kept, keptBy, R
 abbrev pub Apart : Heads → Type 0
 Apart h = (s r : ℕ) → inUse h s ≡ true → inUse h r ≡ true → tipOf h s ≡ tipOf h r → s ≡ r
 
--- an active block that is not the top has an active child
+-- an active block that is not the activeHead has an active child
 abbrev pub Chained : Blocks → ℕ → Type 0
-Chained t top = (i : ℕ) → holds t i ≡ true → onChain t i ≡ true → i ≢ top → (c : ℕ) × (holds t c ≡ true) × (onChain t c ≡ true) × (parentOf t c ≡ i)
+Chained t activeHead = (i : ℕ) → isOccupied t i ≡ true → isActive t i ≡ true → i ≢ activeHead → (c : ℕ) × (isOccupied t c ≡ true) × (isActive t c ≡ true) × (parentOf t c ≡ i)
 
 -- all but the anchors
-pub record Frame (t : Blocks) (h : Heads) (top : ℕ) (C : ℕ → Type 0) : Type 0 where
+pub record Frame (t : Blocks) (h : Heads) (activeHead : ℕ) (C : ℕ → Type 0) : Type 0 where
   pub counts : Kept t
   pub voids : Voids t
   pub roomy : Room h
   pub blanks : Blanks h
-  pub tips : (s : ℕ) → inUse h s ≡ true → (holds t (tipOf h s) ≡ true) × (childrenOf t (tipOf h s) ≡ 0)
+  pub tips : (s : ℕ) → inUse h s ≡ true → (isOccupied t (tipOf h s) ≡ true) × (childrenOf t (tipOf h s) ≡ 0)
   pub apart : Apart h
-  pub covered : (i : ℕ) → C i → holds t i ≡ true → onChain t i ≡ false → childrenOf t i ≡ 0 → (s : ℕ) × (inUse h s ≡ true) × (tipOf h s ≡ i)
-  pub chained : Chained t top
+  pub covered : (i : ℕ) → C i → isOccupied t i ≡ true → isActive t i ≡ false → childrenOf t i ≡ 0 → (s : ℕ) × (inUse h s ≡ true) × (tipOf h s ≡ i)
+  pub chained : Chained t activeHead
 
-pub record Good (t : Blocks) (h : Heads) (top : ℕ) (C : ℕ → Type 0) : Type 0 where
-  pub frame : Frame t h top C
+pub record Good (t : Blocks) (h : Heads) (activeHead : ℕ) (C : ℕ → Type 0) : Type 0 where
+  pub frame : Frame t h activeHead C
   pub anchored : (s : ℕ) → inUse h s ≡ true → Ends t (tipOf h s) (kept h s)
 
 -- a stored head whose tail has got a parent
 abbrev pub Late : Blocks → Head → Type 0
-Late t head = (i : ℕ) × (keptBy head ≡ tail i) × (holds t i ≡ true) × (parentOf t i ≢ NONE)
+Late t head = (i : ℕ) × (keptBy head ≡ tail i) × (isOccupied t i ≡ true) × (parentOf t i ≢ NONE)
 
 -- a head's anchor is right, or something else is true of the head
 abbrev pub Apt : Blocks → Heads → (Head → Type 0) → Type 0
@@ -84,12 +84,12 @@ seat-apart h u k x s apart bare l r v ur uv e = same? r k
     (λ qv. absurd (bare r nr (sym (seat-use h u k x s r nr) ∙ ur) (sym (seat-tip h u k x s r nr) ∙ e ∙ (rw qv (s .here l)))))
     (λ nv. apart r v (sym (seat-use h u k x s r nr) ∙ ur) (sym (seat-use h u k x s v nv) ∙ uv) (sym (seat-tip h u k x s r nr) ∙ e ∙ seat-tip h u k x s v nv)))
 
-module _ (t : Blocks) (h u : Heads) (top k x : ℕ) (C D : ℕ → Type 0) (g : Frame t h top C) (s : Seat h u k x) (l : k < room h)
-    (ox : holds t x ≡ true) (zx : childrenOf t x ≡ 0) (bare : (r : ℕ) → r ≢ k → inUse h r ≡ true → tipOf h r ≢ x)
+module _ (t : Blocks) (h u : Heads) (activeHead k x : ℕ) (C D : ℕ → Type 0) (g : Frame t h activeHead C) (s : Seat h u k x) (l : k < room h)
+    (ox : isOccupied t x ≡ true) (zx : childrenOf t x ≡ 0) (bare : (r : ℕ) → r ≢ k → inUse h r ≡ true → tipOf h r ≢ x)
     (need : (i : ℕ) → D i → i ≢ x → C i × (inUse h k ≡ true → tipOf h k ≢ i)) where
-  pub seat-frame : Frame t u top D
+  pub seat-frame : Frame t u activeHead D
   seat-frame =
-      let here : inUse u k ≡ true = seat-taken h u k x s l (holds-real t x (g .counts .shape) ox) in
+      let here : inUse u k ≡ true = seat-taken h u k x s l (occupied-real t x (g .counts .shape) ox) in
       record {
         counts = g .counts;
         voids = g .voids;
@@ -110,7 +110,7 @@ module _ (t : Blocks) (h u : Heads) (top k x : ℕ) (C D : ℕ → Type 0) (g : 
       }
 
   -- the new head's anchor is right, and the others' as they were
-  pub seat-good : ((r : ℕ) → r ≢ k → inUse h r ≡ true → Ends t (tipOf h r) (kept h r)) → Ends t x (kept u k) → Good t u top D
+  pub seat-good : ((r : ℕ) → r ≢ k → inUse h r ≡ true → Ends t (tipOf h r) (kept h r)) → Ends t x (kept u k) → Good t u activeHead D
   seat-good right new = record {
     frame = seat-frame;
     anchored = λ r ur. same? r k

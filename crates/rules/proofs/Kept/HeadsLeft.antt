@@ -9,16 +9,16 @@ use native.Mathlib.Omega.{arith}
 use lib.Dec.{eqb}
 use borrow.Author.Tests.{eqb-true, eq-eqb, not-true}
 use Rattle.rules.specs.Common.{isSome, isAt, lowest}
-use Rattle.rules.specs.Records.{NONE, Blocks, Heads, slotsOf, used, emptyHead}
+use Rattle.rules.specs.Records.{NONE, Blocks, Heads, slotsOf, used, emptyHead, headAt}
 use Rattle.rules.specs.BlockTable.{childless, children}
 use Rattle.rules.specs.Caches.{slotOfHead}
 use Rattle.rules.specs.Removal.{listed, headFreed, takesOver, heir, dropHeads}
-use Rattle.rules.specs.Promises.{childrenOf, headAt}
+use Rattle.rules.specs.Promises.{childrenOf}
 use Rattle.rules.specs.declared.Head.{Head}
 use Rattle.rules.proofs.Splits.{split, less?, option?, not-some, and-true, and-both, true-not-false}
 use Rattle.rules.proofs.Search.{lowest-holds, lowest-found}
 use Rattle.rules.proofs.Kept.Counting.{zero?}
-use Rattle.rules.proofs.Kept.Table.{parentOf, holds, onChain, holds-real}
+use Rattle.rules.proofs.Kept.Table.{parentOf, isOccupied, isActive, occupied-real}
 use Rattle.rules.proofs.Kept.Seats.{room, tipOf, inUse, use-lt, use-ne, ne-use, head-slots, Blanks, Room}
 use Rattle.rules.proofs.Kept.Frame.{Apart, Frame, All, head-some, head-none}
 use Rattle.rules.proofs.Kept.Sweep.{kids-are}
@@ -29,11 +29,11 @@ use Rattle.rules.proofs.Kept.Left.{Left}
 pub record HeadsOf (u : Blocks) (h : Heads) : Type 0 where
   pub roomy : Room h
   pub blanks : Blanks h
-  pub tips : (k : ℕ) → inUse h k ≡ true → (holds u (tipOf h k) ≡ true) × (childrenOf u (tipOf h k) ≡ 0)
+  pub tips : (k : ℕ) → inUse h k ≡ true → (isOccupied u (tipOf h k) ≡ true) × (childrenOf u (tipOf h k) ≡ 0)
   pub apart : Apart h
-  pub covered : (i : ℕ) → holds u i ≡ true → onChain u i ≡ false → childrenOf u i ≡ 0 → (k : ℕ) × (inUse h k ≡ true) × (tipOf h k ≡ i)
+  pub covered : (i : ℕ) → isOccupied u i ≡ true → isActive u i ≡ false → childrenOf u i ≡ 0 → (k : ℕ) × (inUse h k ≡ true) × (tipOf h k ≡ i)
 
-module _ (t u : Blocks) (h : Heads) (top r : ℕ) (deleted : List ℕ) (f : Frame t h top All) (lf : Left t u h top r deleted) where
+module _ (t u : Blocks) (h : Heads) (activeHead r : ℕ) (deleted : List ℕ) (f : Frame t h activeHead All) (lf : Left t u h activeHead r deleted) where
   abbrev p : ℕ
   p = parentOf t r
 
@@ -46,17 +46,17 @@ module _ (t u : Blocks) (h : Heads) (top r : ℕ) (deleted : List ℕ) (f : Fram
   abbrev pub h2 : Heads
   h2 = dropHeads deleted moving p h
 
-  over : takes-over ≡ true → (holds u p ≡ true) × (slotOfHead (h .tips) p ≡ none) × (childrenOf u p ≡ 0)
+  over : takes-over ≡ true → (isOccupied u p ≡ true) × (slotOfHead (h .tips) p ≡ none) × (childrenOf u p ≡ 0)
   unfolding takesOver childless
   over e =
-      let c = and-true (holds u p && not (isSome (slotOfHead (h .tips) p))) (eqb (children (u .parents) (u .sequences) p) 0) e in
-      let d = and-true (holds u p) (not (isSome (slotOfHead (h .tips) p))) (c .0) in (
+      let c = and-true (isOccupied u p && not (isSome (slotOfHead (h .tips) p))) (eqb (children (u .parents) (u .sequences) p) 0) e in
+      let d = and-true (isOccupied u p) (not (isSome (slotOfHead (h .tips) p))) (c .0) in (
         d .0,
         not-some (slotOfHead (h .tips) p) (not-true (isSome (slotOfHead (h .tips) p)) (d .1)),
         sym (kids-are u (lf .shape) p) ∙ eqb-true (children (u .parents) (u .sequences) p) 0 (c .1),
       )
 
-  takes : holds u p ≡ true → slotOfHead (h .tips) p ≡ none → childrenOf u p ≡ 0 → takes-over ≡ true
+  takes : isOccupied u p ≡ true → slotOfHead (h .tips) p ≡ none → childrenOf u p ≡ 0 → takes-over ≡ true
   unfolding takesOver childless
   takes o n z = rw (o, n, kids-are u (lf .shape) p, z) refl
 
@@ -127,7 +127,7 @@ module _ (t u : Blocks) (h : Heads) (top r : ℕ) (deleted : List ℕ) (f : Fram
       go (emptied a b c) = not-freed b
       go (left a b c) = let q = tip-same k c in (ne-use h2 k (rw q (use-ne h k uk)), q)
 
-  tips-left : (k : ℕ) → inUse h2 k ≡ true → (holds u (tipOf h2 k) ≡ true) × (childrenOf u (tipOf h2 k) ≡ 0)
+  tips-left : (k : ℕ) → inUse h2 k ≡ true → (isOccupied u (tipOf h2 k) ≡ true) × (childrenOf u (tipOf h2 k) ≡ 0)
   tips-left k uk = elim (fate k uk) [
     | inl c ↦ let o = over (heir-some k (c .0) .0) in rw (c .1) (o .0, o .2)
     | inr c ↦
@@ -151,11 +151,11 @@ module _ (t u : Blocks) (h : Heads) (top r : ℕ) (deleted : List ℕ) (f : Fram
       go k a (cell k (rw (head-slots h (f .roomy)) at (b .0))))
     where
       go : (k : ℕ) → isAt moving k ≡ true → Cell deleted moving p h h2 k → (k : ℕ) × (inUse h2 k ≡ true) × (tipOf h2 k ≡ p)
-      go k a (moved b c) = (k, ne-use h2 k (rw c (holds-real u p (lf .shape) (over e .0))), c)
+      go k a (moved b c) = (k, ne-use h2 k (rw c (occupied-real u p (lf .shape) (over e .0))), c)
       go k a (emptied b c d) = true-not-false {b = isAt moving k} a b
       go k a (left b c d) = true-not-false {b = isAt moving k} a b
 
-  covered-left : (i : ℕ) → holds u i ≡ true → onChain u i ≡ false → childrenOf u i ≡ 0 → (k : ℕ) × (inUse h2 k ≡ true) × (tipOf h2 k ≡ i)
+  covered-left : (i : ℕ) → isOccupied u i ≡ true → isActive u i ≡ false → childrenOf u i ≡ 0 → (k : ℕ) × (inUse h2 k ≡ true) × (tipOf h2 k ≡ i)
   covered-left i o a z =
       let (m, oi) = lf .there i o in
       zero? (childrenOf t i)
@@ -198,7 +198,7 @@ module _ (t u : Blocks) (h : Heads) (top r : ℕ) (deleted : List ℕ) (f : Fram
       same c = let q = tip-same k c in c ∙ f .blanks k (rw q at e)
 
       go : Cell deleted moving p h h2 k → headAt h2 k ≡ emptyHead
-      go (moved a b) = true-not-false {b = inUse h2 k} (ne-use h2 k (rw b (holds-real u p (lf .shape) (over (heir-some k a .0) .0)))) e
+      go (moved a b) = true-not-false {b = inUse h2 k} (ne-use h2 k (rw b (occupied-real u p (lf .shape) (over (heir-some k a .0) .0)))) e
       go (emptied a b c) = c
       go (left a b c) = same c
 

@@ -12,7 +12,7 @@ use Rattle.rules.specs.Anchor.{Anchor, tail}
 use Rattle.rules.specs.Caches.{slotOfHead}
 use Rattle.rules.specs.Promises.{isChild, childrenOf}
 use Rattle.rules.proofs.Splits.{same?, and-false-r}
-use Rattle.rules.proofs.Kept.Table.{seqOf, parentOf, countOf, holds, onChain, setCount, setParent, Shape, Linked, holds-lt, holds-ne, holds-real}
+use Rattle.rules.proofs.Kept.Table.{seqOf, parentOf, countOf, isOccupied, isActive, setCount, setParent, Shape, Linked, occupied-lt, occupied-ne, occupied-real}
 use Rattle.rules.proofs.Kept.Slots.{But, but-parent, but-count, but-kids, but-gains, count-but, count-here, count-kids, parent-but, parent-here, Voids, but-voids}
 use Rattle.rules.proofs.Kept.Ends.{Ends, at-active, at-root, goes-on}
 use Rattle.rules.proofs.Kept.Seats.{tipOf, inUse, kept, clear-seat, clear-other, clear-blanks, seat-tip, seat-use}
@@ -20,21 +20,21 @@ use Rattle.rules.proofs.Kept.Frame.{Frame, Late, Apt, All, Chained, hea
 
 -- the tail T waits for x
 pub record Waits (t : Blocks) (x T : ℕ) : Type 0 where
-  pub there : holds t T ≡ true
+  pub there : isOccupied t T ≡ true
   pub orphan : parentOf t T ≡ NONE
   pub next : suc (seqOf t x) ≡ seqOf t T
-  pub home : holds t x ≡ true
-  pub fresh : onChain t x ≡ false
+  pub home : isOccupied t x ≡ true
+  pub fresh : isActive t x ≡ false
 
-module _ (t : Blocks) (h : Heads) (top x T : ℕ) (g : Frame t h top All) (w : Waits t x T) where
+module _ (t : Blocks) (h : Heads) (activeHead x T : ℕ) (g : Frame t h activeHead All) (w : Waits t x T) where
   abbrev u : Blocks
   u = setParent t T x
 
   shape : Shape t
   shape = g .counts .shape
 
-  real : (j : ℕ) → holds t j ≡ true → j ≢ NONE
-  real j o = holds-real t j shape o
+  real : (j : ℕ) → isOccupied t j ≡ true → j ≢ NONE
+  real j o = occupied-real t j shape o
 
   but : But t u T
   but = parent-but t T x
@@ -46,18 +46,18 @@ module _ (t : Blocks) (h : Heads) (top x T : ℕ) (g : Frame t h top All) (w : W
   before k n = rw (w .orphan, ne-eqb NONE k (λ q. n (sym q))) (and-false-r (not (eqb (seqOf t T) NONE)) false refl)
 
   -- only x has other children than before
-  others : (j : ℕ) → holds t j ≡ true → j ≢ x → childrenOf u j ≡ childrenOf t j
+  others : (j : ℕ) → isOccupied t j ≡ true → j ≢ x → childrenOf u j ≡ childrenOf t j
   others j o ne = but-kids t u T but j (rw (here, ne-eqb x j (λ q. ne (sym q))) (and-false-r (not (eqb (seqOf t T) NONE)) false refl) ∙ sym (before j (real j o)))
 
   more : childrenOf u x ≡ suc (childrenOf t x)
-  more = but-gains t u T but x (holds-lt t T (w .there)) (rw (here, ne-eqb (seqOf t T) NONE (holds-ne t T (w .there)), eq-eqb x x refl)) (before x (real x (w .home)))
+  more = but-gains t u T but x (occupied-lt t T (w .there)) (rw (here, ne-eqb (seqOf t T) NONE (occupied-ne t T (w .there)), eq-eqb x x refl)) (before x (real x (w .home)))
 
   linked : Linked u
   linked j o = same? j T
       (λ q. inr (rw (q, here) (w .home, w .next)))
       (λ ne. rw (but-parent t u T but j ne) (g .counts .linked j o))
 
-  chained : Chained u top
+  chained : Chained u activeHead
   chained i o a ne =
       let (c, oc, ac, pc) = g .chained i o a ne in
       let nc : c ≢ T = λ q. real i o (sym pc ∙ ap (parentOf t) q ∙ w .orphan) in
@@ -67,17 +67,17 @@ module _ (t : Blocks) (h : Heads) (top x T : ℕ) (g : Frame t h top All) (w : W
   voids = but-voids t u T but (w .there) (g .voids)
 
   -- a head that is not of x is of a block whose children stay
-  tips : (s : ℕ) → inUse h s ≡ true → tipOf h s ≢ x → (holds u (tipOf h s) ≡ true) × (childrenOf u (tipOf h s) ≡ 0)
+  tips : (s : ℕ) → inUse h s ≡ true → tipOf h s ≢ x → (isOccupied u (tipOf h s) ≡ true) × (childrenOf u (tipOf h s) ≡ 0)
   tips s us ne = let p = g .tips s us in (p .0, others (tipOf h s) (p .0) ne ∙ p .1)
 
-  covered : (i : ℕ) → holds u i ≡ true → onChain u i ≡ false → childrenOf u i ≡ 0 → (s : ℕ) × (inUse h s ≡ true) × (tipOf h s ≡ i) × (i ≢ x)
+  covered : (i : ℕ) → isOccupied u i ≡ true → isActive u i ≡ false → childrenOf u i ≡ 0 → (s : ℕ) × (inUse h s ≡ true) × (tipOf h s ≡ i) × (i ≢ x)
   covered i o a z =
       let ne : i ≢ x = λ q. absurd (let zz = rw q at z in omega (arith, more)) in
       let c = g .covered i tt o a (sym (others i o ne) ∙ z) in
       (c .0, c .1, c .2, ne)
 
   -- the first late child: the new block's own head goes, and its count stays 1
-  pub merge : (s : ℕ) → inUse h s ≡ true → tipOf h s ≡ x → Frame u (clear h s) top All
+  pub merge : (s : ℕ) → inUse h s ≡ true → tipOf h s ≡ x → Frame u (clear h s) activeHead All
   merge s us q =
       let tip : (r : ℕ) → r ≢ s → tipOf (clear h s) r ≡ tipOf h r = seat-tip h (clear h s) s NONE (clear-seat h s) in
       record {
@@ -108,7 +108,7 @@ module _ (t : Blocks) (h : Heads) (top x T : ℕ) (g : Frame t h top All) (w : W
       }
 
   -- a further one: the count rises by one
-  pub fork : slotOfHead (h .tips) x ≡ none → Frame (setCount u x (suc (countOf t x))) h top All
+  pub fork : slotOfHead (h .tips) x ≡ none → Frame (setCount u x (suc (countOf t x))) h activeHead All
   fork n =
       let c : ℕ = suc (countOf t x) in
       let cx = g .counts .counted x (w .home) (w .fresh) in

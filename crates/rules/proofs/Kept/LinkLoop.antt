@@ -10,12 +10,12 @@ use lib.Dec.{eqb}
 use borrow.Author.Tests.{eqb-true}
 use Rattle.rules.specs.Common.{inOrder}
 use Rattle.rules.specs.Records.{NONE, Blocks, Heads, Tables, tailAt, clear}
-use Rattle.rules.specs.BlockTable.{resolveParent}
+use Rattle.rules.specs.BlockTable.{resolveParent, maxCount}
 use Rattle.rules.specs.Caches.{slotOfHead}
-use Rattle.rules.specs.Admission.{misses, late, joined, link, linkLate}
+use Rattle.rules.specs.Admission.{misses, late, joined, link, linkLate, isLate}
 use Rattle.rules.specs.declared.Head.{Head}
 use Rattle.rules.proofs.Splits.{split, option?, and-true}
-use Rattle.rules.proofs.Kept.Table.{seqOf, parentOf, countOf, holds, onChain, setCount, setParent, holds-real}
+use Rattle.rules.proofs.Kept.Table.{seqOf, parentOf, countOf, isOccupied, isActive, setCount, setParent, occupied-real}
 use Rattle.rules.proofs.Kept.Slots.{count-but, parent-but}
 use Rattle.rules.proofs.Kept.Steady.{Steady, steady-trans, but-steady, ends-same}
 use Rattle.rules.proofs.Kept.Seats.{tipOf, kept, clear-seat, clear-other, seat-tip}
@@ -25,11 +25,11 @@ use Rattle.rules.proofs.Kept.Arrive.{raise, raised, raise-suc}
 use Rattle.rules.proofs.Kept.Link.{Waits, merge, fork, loose-link}
 
 -- what every turn keeps; the links began at s
-pub record Joining (s : Blocks) (top x q : ℕ) (w : Tables) : Type 0 where
-  pub frame : Frame (w .blocks) (w .heads) top All
+pub record Joining (s : Blocks) (activeHead x q : ℕ) (w : Tables) : Type 0 where
+  pub frame : Frame (w .blocks) (w .heads) activeHead All
   pub loose : Apt (w .blocks) (w .heads) (Late (w .blocks))
-  pub home : holds (w .blocks) x ≡ true
-  pub fresh : onChain (w .blocks) x ≡ false
+  pub home : isOccupied (w .blocks) x ≡ true
+  pub fresh : isActive (w .blocks) x ≡ false
   pub known : seqOf (w .blocks) x ≡ q
   pub steady : Steady NONE s (w .blocks)
 
@@ -48,7 +48,7 @@ module _ (t : Blocks) (h : Heads) (x k : ℕ) where
   abbrev T : ℕ
   T = tailAt (h .tails) k
 
-  link-none : slotOfHead (h .tips) x ≡ none → holds t x ≡ true
+  link-none : slotOfHead (h .tips) x ≡ none → isOccupied t x ≡ true
       → link (record { blocks = t; heads = h }) x k ≡ record { blocks = setCount (setParent t T x) x (raise (countOf t x)); heads = h }
   unfolding link joined resolveParent
   link-none n o = rw (n, joined) (rw (raised (setParent t T x) x o))
@@ -60,21 +60,21 @@ module _ (t : Blocks) (h : Heads) (x k : ℕ) where
   link-steady : Waits t x T → Steady NONE t (setParent t T x)
   link-steady v = but-steady NONE t (setParent t T x) T (parent-but t T x) refl refl refl refl (λ n. absurd (n (v .orphan)))
 
-  module _ (s : Blocks) (top q : ℕ) (j : Joining s top x q (record { blocks = t; heads = h })) (v : Waits t x T) where
-    by-fork : slotOfHead (h .tips) x ≡ none → Joining s top x q (link (record { blocks = t; heads = h }) x k)
+  module _ (s : Blocks) (activeHead q : ℕ) (j : Joining s activeHead x q (record { blocks = t; heads = h })) (v : Waits t x T) where
+    by-fork : slotOfHead (h .tips) x ≡ none → Joining s activeHead x q (link (record { blocks = t; heads = h }) x k)
     by-fork n =
         let f = j .frame in
-        let low : countOf t x < 255 = omega (
+        let low : countOf t x < maxCount = omega (
           arith,
           f .counts .counted x (v .home) (v .fresh),
           f .roomy .few,
-          children-bound t h top All f (λ _. tt) x (holds-real t x (f .counts .shape) (v .home)),
+          children-bound t h activeHead All f (λ _. tt) x (occupied-real t x (f .counts .shape) (v .home)),
         ) in
         let u : Blocks = setParent t T x in
         let c : ℕ = suc (countOf t x) in
         rw (link-none n (v .home), raise-suc (countOf t x) low) (record {
-          frame = fork t h top x T f v n;
-          loose = apt-count u h x c (loose-link t h top x T f v (j .loose));
+          frame = fork t h activeHead x T f v n;
+          loose = apt-count u h x c (loose-link t h activeHead x T f v (j .loose));
           home = v .home;
           fresh = v .fresh;
           known = j .known;
@@ -82,41 +82,41 @@ module _ (t : Blocks) (h : Heads) (x k : ℕ) where
               (but-steady NONE u (setCount u x c) x (count-but u x c) refl refl refl refl (λ _. refl));
         })
 
-    by-merge : (r : ℕ) → slotOfHead (h .tips) x ≡ some r → Joining s top x q (link (record { blocks = t; heads = h }) x k)
+    by-merge : (r : ℕ) → slotOfHead (h .tips) x ≡ some r → Joining s activeHead x q (link (record { blocks = t; heads = h }) x k)
     by-merge r e =
         let f = j .frame in
         let w = head-some h x r e in
         let u : Blocks = setParent t T x in
         rw (link-some r e) (record {
-          frame = merge t h top x T f v r (w .0) (w .1);
-          loose = apt-clear u h r (Late u) (loose-link t h top x T f v (j .loose));
+          frame = merge t h activeHead x T f v r (w .0) (w .1);
+          loose = apt-clear u h r (Late u) (loose-link t h activeHead x T f v (j .loose));
           home = v .home;
           fresh = v .fresh;
           known = j .known;
           steady = steady-trans NONE s t u (j .steady) (link-steady v);
         })
 
-    pub link-keeps : Joining s top x q (link (record { blocks = t; heads = h }) x k)
+    pub link-keeps : Joining s activeHead x q (link (record { blocks = t; heads = h }) x k)
     link-keeps = option? (slotOfHead (h .tips) x) by-fork by-merge
 
-late-waits : (t : Blocks) (h : Heads) (x q : ℕ) (hash : List ℕ) (k : ℕ) → holds t x ≡ true → onChain t x ≡ false → seqOf t x ≡ q
-    → late (record { blocks = t; heads = h }) x hash q k ≡ true → Waits t x (tailAt (h .tails) k)
+late-waits : (t : Blocks) (h : Heads) (x q : ℕ) (hash : List ℕ) (k : ℕ) → isOccupied t x ≡ true → isActive t x ≡ false → seqOf t x ≡ q
+    → isLate (record { blocks = t; heads = h }) x hash q k ≡ true → Waits t x (tailAt (h .tails) k)
 unfolding late
 late-waits t h x q hash k o a e l =
     let i = tailAt (h .tails) k in
-    let m = misses h hash k && not (eqb i x) in
-    let c1 = and-true (m && holds t i && eqb (parentOf t i) NONE) (eqb (seqOf t i) (suc q)) l in
-    let c2 = and-true (m && holds t i) (eqb (parentOf t i) NONE) (c1 .0) in
-    let c3 = and-true m (holds t i) (c2 .0) in
+    let m = misses (h .tips) (h .missing) (h .connected) hash k && not (eqb i x) in
+    let c1 = and-true (m && isOccupied t i && eqb (parentOf t i) NONE) (eqb (seqOf t i) (suc q)) l in
+    let c2 = and-true (m && isOccupied t i) (eqb (parentOf t i) NONE) (c1 .0) in
+    let c3 = and-true m (isOccupied t i) (c2 .0) in
     record { there = c3 .1; orphan = eqb-true (parentOf t i) NONE (c2 .1); next = ap suc e ∙ sym (eqb-true (seqOf t i) (suc q) (c1 .1)); home = o; fresh = a }
 
-once-keeps : (s : Blocks) (top x q : ℕ) (hash : List ℕ) (k : ℕ) (w : Tables) → Joining s top x q w → Joining s top x q (linkLate x hash q k w)
+once-keeps : (s : Blocks) (activeHead x q : ℕ) (hash : List ℕ) (k : ℕ) (w : Tables) → Joining s activeHead x q w → Joining s activeHead x q (linkLate x hash q k w)
 unfolding linkLate
-once-keeps s top x q hash k w j = split (late w x hash q k)
-    (λ e. rw e (link-keeps (w .blocks) (w .heads) x k s top q j (late-waits (w .blocks) (w .heads) x q hash k (j .home) (j .fresh) (j .known) e)))
+once-keeps s activeHead x q hash k w j = split (isLate w x hash q k)
+    (λ e. rw e (link-keeps (w .blocks) (w .heads) x k s activeHead q j (late-waits (w .blocks) (w .heads) x q hash k (j .home) (j .fresh) (j .known) e)))
     (λ e. rw e j)
 
-pub all-keep : (s : Blocks) (top x q : ℕ) (hash : List ℕ) (n : ℕ) (w : Tables) → Joining s top x q w → Joining s top x q (inOrder (linkLate x hash q) n w)
+pub all-keep : (s : Blocks) (activeHead x q : ℕ) (hash : List ℕ) (n : ℕ) (w : Tables) → Joining s activeHead x q w → Joining s activeHead x q (inOrder (linkLate x hash q) n w)
 unfolding inOrder
-all-keep s top x q hash zero w j = j
-all-keep s top x q hash (suc n) w j = once-keeps s top x q hash n (inOrder (linkLate x hash q) n w) (all-keep s top x q hash n w j)
+all-keep s activeHead x q hash zero w j = j
+all-keep s activeHead x q hash (suc n) w j = once-keeps s activeHead x q hash n (inOrder (linkLate x hash q) n w) (all-keep s activeHead x q hash n w j)

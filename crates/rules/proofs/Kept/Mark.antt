@@ -16,9 +16,9 @@ use Rattle.rules.proofs.Splits.{split, same?, not-some, and-true, true-
 use Rattle.rules.proofs.Search.{lowest-misses, all-fails}
 use Rattle.rules.proofs.Walks.{reaches-root, reaches-end, reaches-up}
 use Rattle.rules.proofs.Kept.Counting.{zero?}
-use Rattle.rules.proofs.Kept.Table.{size, parentOf, holds, onChain, Shape, Linked, holds-lt, holds-real, kids-slots, parent-there}
+use Rattle.rules.proofs.Kept.Table.{size, parentOf, isOccupied, isActive, Shape, Linked, occupied-lt, occupied-real, kids-slots, parent-there}
 use Rattle.rules.proofs.Kept.Ends.{depth, depth-falls, depth-lt, Above, here, up}
-use Rattle.rules.proofs.Kept.Leaves.{above-holds}
+use Rattle.rules.proofs.Kept.Leaves.{above-occupied}
 
 -- ---- a list of those that pass
 
@@ -60,7 +60,7 @@ module _ (test : ℕ → Bool) where
 
 module _ (t : Blocks) (r : ℕ) (s : Shape t) (l : Linked t) where
   -- more visits than there are blocks below change nothing
-  reaches-more : (f g j : ℕ) → holds t j ≡ true → depth t j < f → depth t j < g
+  reaches-more : (f g j : ℕ) → isOccupied t j ≡ true → depth t j < f → depth t j < g
       → reaches (t .parents) (t .sequences) r f j ≡ reaches (t .parents) (t .sequences) r g j
   reaches-more zero g j o a b = absurd (omega arith)
   reaches-more (suc f) zero j o a b = absurd (omega arith)
@@ -74,23 +74,23 @@ module _ (t : Blocks) (r : ℕ) (s : Shape t) (l : Linked t) where
       reaches-up (t .parents) (t .sequences) r f j ne o np ∙ reaches-more f g (parentOf t j) (p .0) (omega arith) (omega arith)
       ∙ sym (reaches-up (t .parents) (t .sequences) r g j ne o np)))
 
-  module _ (root : holds t r ≡ true) where
+  module _ (root : isOccupied t r ≡ true) where
     abbrev pub mark : ℕ → Bool
     mark j = inSubtree (t .parents) (t .sequences) r j
 
-    mark-is : (j : ℕ) → holds t j ≡ true → mark j ≡ reaches (t .parents) (t .sequences) r (size t) j
+    mark-is : (j : ℕ) → isOccupied t j ≡ true → mark j ≡ reaches (t .parents) (t .sequences) r (size t) j
     unfolding inSubtree
     mark-is j o = rw (o, kids-slots t s)
 
-    pub mark-holds : (j : ℕ) → mark j ≡ true → holds t j ≡ true
+    pub mark-occupied : (j : ℕ) → mark j ≡ true → isOccupied t j ≡ true
     unfolding inSubtree
-    mark-holds j m = and-true (holds t j) (reaches (t .parents) (t .sequences) r (slotsOf (t .sequences)) j) m .0
+    mark-occupied j m = and-true (isOccupied t j) (reaches (t .parents) (t .sequences) r (slotsOf (t .sequences)) j) m .0
 
     pub mark-root : mark r ≡ true
-    mark-root = mark-is r root ∙ reaches-root (t .parents) (t .sequences) r (size t) r (let k = holds-lt t r root in omega arith) refl
+    mark-root = mark-is r root ∙ reaches-root (t .parents) (t .sequences) r (size t) r (let k = occupied-lt t r root in omega arith) refl
 
     -- a block other than the root is marked exactly when its parent is
-    pub mark-parent : (j : ℕ) → j ≢ r → holds t j ≡ true → parentOf t j ≢ NONE → mark j ≡ mark (parentOf t j)
+    pub mark-parent : (j : ℕ) → j ≢ r → isOccupied t j ≡ true → parentOf t j ≢ NONE → mark j ≡ mark (parentOf t j)
     mark-parent j ne o np =
         let p = parent-there t j l o np in
         let d = depth-falls t j (parentOf t j) (p .0) (omega arith) in
@@ -104,20 +104,20 @@ module _ (t : Blocks) (r : ℕ) (s : Shape t) (l : Linked t) where
     mark-above j (up k o x) = same? k r
         (λ q. rw q mark-root)
         (λ ne.
-        let op = above-holds t s l r (parentOf t k) x root in
-        mark-parent k ne o (holds-real t (parentOf t k) s op) ∙ mark-above (parentOf t k) x)
+        let op = above-occupied t s l r (parentOf t k) x root in
+        mark-parent k ne o (occupied-real t (parentOf t k) s op) ∙ mark-above (parentOf t k) x)
 
     pub mark-listed : (j : ℕ) → listed (markSubtree (t .parents) (t .sequences) r) j ≡ mark j
     unfolding markSubtree below
     mark-listed j = rw root (split (mark j)
-        (λ m. below-in mark (slotsOf (t .sequences)) j (rw (kids-slots t s) (holds-lt t j (mark-holds j m))) m ∙ sym m)
+        (λ m. below-in mark (slotsOf (t .sequences)) j (rw (kids-slots t s) (occupied-lt t j (mark-occupied j m))) m ∙ sym m)
         (λ m. split (below mark (slotsOf (t .sequences)) j)
         (λ b. true-not-false {b = mark j} (below-out mark (slotsOf (t .sequences)) j b) m)
         (λ b. b ∙ sym m)))
 
     -- where removal is not refused, no marked block is active
-    pub mark-off : holdsActive t r ≡ false → (j : ℕ) → mark j ≡ true → onChain t j ≡ false
+    pub mark-off : holdsActive t r ≡ false → (j : ℕ) → mark j ≡ true → isActive t j ≡ false
     unfolding holdsActive
     mark-off e j m =
-        let n = not-some (lowest (λ i. mark i && onChain t i) _) e in
-        rw m at (lowest-misses (λ i. mark i && onChain t i) _ j n (omega (arith, kids-slots t s, holds-lt t j (mark-holds j m))))
+        let n = not-some (lowest (λ i. mark i && isActive t i) _) e in
+        rw m at (lowest-misses (λ i. mark i && isActive t i) _ j n (omega (arith, kids-slots t s, occupied-lt t j (mark-occupied j m))))

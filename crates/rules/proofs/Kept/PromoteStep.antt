@@ -12,11 +12,11 @@ use Rattle.rules.specs.Answers.{done}
 use Rattle.rules.specs.Calls.{State, promoteCall, answering, isNext, promotedTo, promote}
 use Rattle.rules.specs.Promises.{parent, Active, OnLine, start, down, Sound}
 use Rattle.rules.proofs.Splits.{split, same?, true-not-false}
-use Rattle.rules.proofs.Kept.Table.{parentOf, holds, Shape, holds-ne, ne-holds, none-empty}
+use Rattle.rules.proofs.Kept.Table.{parentOf, isOccupied, Shape, occupied-ne, ne-occupied, none-empty}
 use Rattle.rules.proofs.Kept.Frame.{Frame, All}
 use Rattle.rules.proofs.Kept.Recomputed.{recomputed}
 use Rattle.rules.proofs.Kept.Promote.{lit-here, lit-other, promote-frame}
-use Rattle.rules.proofs.Kept.Walked.{blocksOf, headsOf, active-on, on-active}
+use Rattle.rules.proofs.Kept.Walked.{itsBlocks, itsHeads, active-on, on-active}
 use Rattle.rules.proofs.Kept.Border.{sound-good, good-sound}
 use Rattle.rules.proofs.Kept.Went.{Went, turned-away}
 
@@ -24,11 +24,11 @@ or-true : (a b : Bool) → (a || b) ≡ true → (a ≡ true) ⊎ (b ≡ true)
 or-true true b e = inl refl
 or-true false b e = inr e
 
-module _ (s : State) (i : ℕ) (z : Sound s) (o : holds (blocksOf s) i ≡ true) where
+module _ (s : State) (i : ℕ) (z : Sound s) (o : isOccupied (itsBlocks s) i ≡ true) where
   abbrev t : Blocks
-  t = blocksOf s
+  t = itsBlocks s
 
-  f : Frame t (headsOf s) (s .activeHead) All
+  f : Frame t (itsHeads s) (s .activeHead) All
   f = sound-good s z .frame
 
   sh : Shape t
@@ -53,7 +53,7 @@ module _ (s : State) (i : ℕ) (z : Sound s) (o : holds (blocksOf s) i ≡ true)
     lift : (j : ℕ) → OnLine s j → OnLine u j
     unfolding promoted activate
     lift j (start a) = elim acc [
-      | inl e ↦ true-not-false {b = holds t NONE} (rw e at (ne-holds t (s .activeHead) (z .tree .line (s .activeHead) a .0))) (none-empty t sh)
+      | inl e ↦ true-not-false {b = isOccupied t NONE} (rw e at (ne-occupied t (s .activeHead) (z .tree .line (s .activeHead) a .0))) (none-empty t sh)
       | inr e ↦ rw (← e) (down i (start here) (rw e (up (s .activeHead) a)))
     ]
     lift j (down k l a) = down k (lift k l) (up (parent s k) a)
@@ -61,9 +61,9 @@ module _ (s : State) (i : ℕ) (z : Sound s) (o : holds (blocksOf s) i ≡ true)
     pub promoted-went : Went (promoteCall i) s (answering u done)
     unfolding promoted activate
     promoted-went = record {
-      sound = good-sound u (recomputed _ i All (headsOf s) (promote-frame t (headsOf s) (s .activeHead) i f o acc))
+      sound = good-sound u (recomputed _ i All (itsHeads s) (promote-frame t (itsHeads s) (s .activeHead) i f o acc))
           (λ j a. same? j i
-          (λ q. rw q (holds-ne t i o, start here))
+          (λ q. rw q (occupied-ne t i o, start here))
           (λ ne. let w = z .tree .line j (was j ne a) in (w .0, lift j (w .1))))
           (inr here)
           (z .tree .names);
@@ -76,17 +76,17 @@ module _ (s : State) (i : ℕ) (z : Sound s) (o : holds (blocksOf s) i ≡ true)
     }
 
 module _ (s : State) (i : ℕ) (z : Sound s) where
-  next-is : isNext s i ≡ true → (s .activeHead ≡ NONE) ⊎ (parent s i ≡ s .activeHead)
+  next-is : isNext (s .tables .blocks .parents) (s .activeHead) i ≡ true → (s .activeHead ≡ NONE) ⊎ (parent s i ≡ s .activeHead)
   unfolding isNext
-  next-is e = elim (or-true (eqb (s .activeHead) NONE) (eqb (parentOf (blocksOf s) i) (s .activeHead)) e) [
+  next-is e = elim (or-true (eqb (s .activeHead) NONE) (eqb (parentOf (itsBlocks s) i) (s .activeHead)) e) [
     | inl k ↦ inl (eqb-true (s .activeHead) NONE k)
-    | inr k ↦ inr (eqb-true (parentOf (blocksOf s) i) (s .activeHead) k)
+    | inr k ↦ inr (eqb-true (parentOf (itsBlocks s) i) (s .activeHead) k)
   ]
 
   pub went-promote : Went (promoteCall i) s (promote s i)
   unfolding promote
-  went-promote = rw (z .tree .shape) (split (holds (blocksOf s) i)
-      (λ o. split (isNext s i)
+  went-promote = rw (z .tree .shape) (split (isOccupied (itsBlocks s) i)
+      (λ o. split (isNext (s .tables .blocks .parents) (s .activeHead) i)
       (λ e. rw (o, e) (promoted-went s i z o (next-is e)))
       (λ e. rw (o, e) (turned-away (promoteCall i) s 8 z)))
       (λ o. rw o (turned-away (promoteCall i) s 3 z)))

@@ -7,13 +7,13 @@ use borrow.Author.Tests.{eqb-true, eq-eqb}
 use Rattle.rules.specs.Common.{inOrder}
 use Rattle.rules.specs.Hashes.{zeroHash}
 use Rattle.rules.specs.Records.{NONE, Blocks, Heads, Tables, slotsOf}
-use Rattle.rules.specs.BlockTable.{childless, children}
+use Rattle.rules.specs.BlockTable.{childless, children, maxCount}
 use Rattle.rules.specs.Admission.{insertHead}
 use Rattle.rules.specs.Removal.{recounted}
 use Rattle.rules.specs.Rebuild.{rebuildAt, rebuiltBelow, rebuildHeads, rebuilt, headless, restarted}
 use Rattle.rules.specs.Promises.{childrenOf}
 use Rattle.rules.proofs.Splits.{split, same?, and-true, true-not-false}
-use Rattle.rules.proofs.Kept.Table.{Shape, Linked, size, holds, onChain, holds-lt, holds-real, kids-slots}
+use Rattle.rules.proofs.Kept.Table.{Shape, Linked, size, isOccupied, isActive, occupied-lt, occupied-real, kids-slots}
 use Rattle.rules.proofs.Kept.Slots.{Voids}
 use Rattle.rules.proofs.Kept.Steady.{Steady, steady-trans, ends-same}
 use Rattle.rules.proofs.Kept.Seats.{Room, room, tipOf, inUse, kept}
@@ -24,8 +24,8 @@ use Rattle.rules.proofs.Kept.Sweep.{kids-are, recounted-kids, recounted
 use Rattle.rules.proofs.Kept.Empty.{no-head, none-used, empty-room}
 
 -- counts may be set again at any time
-recounted-good : (t : Blocks) (h : Heads) (top : ℕ) (C : ℕ → Type 0) → Good t h top C → ((i : ℕ) → holds t i ≡ true → childrenOf t i ≤ 255) → Good (recounted t) h top C
-recounted-good t h top C g few =
+recounted-good : (t : Blocks) (h : Heads) (activeHead : ℕ) (C : ℕ → Type 0) → Good t h activeHead C → ((i : ℕ) → isOccupied t i ≡ true → childrenOf t i ≤ maxCount) → Good (recounted t) h activeHead C
+recounted-good t h activeHead C g few =
     let f = g .frame in
     let s = f .counts .shape in
     record {
@@ -45,34 +45,34 @@ recounted-good t h top C g few =
 recounted-steady : (t : Blocks) → Steady NONE t (recounted t)
 recounted-steady t = record { keeps = λ _ o a. (o, a, λ _. refl); back = λ _ o a. (o, a); same = λ _ _ o. (o, refl, refl) }
 
-few-kids : (t : Blocks) (h : Heads) (top : ℕ) → Frame t h top All → (i : ℕ) → holds t i ≡ true → childrenOf t i ≤ 255
-few-kids t h top f i o = omega (arith, f .roomy .few, children-bound t h top All f (λ _. tt) i (holds-real t i (f .counts .shape) o))
+few-kids : (t : Blocks) (h : Heads) (activeHead : ℕ) → Frame t h activeHead All → (i : ℕ) → isOccupied t i ≡ true → childrenOf t i ≤ maxCount
+few-kids t h activeHead f i o = omega (arith, f .roomy .few, children-bound t h activeHead All f (λ _. tt) i (occupied-real t i (f .counts .shape) o))
 
 -- the first k slots are done
-record Upto (t : Blocks) (top k : ℕ) (w : Tables) : Type 0 where
-  good : Good (w .blocks) (w .heads) top (λ i. i < k)
+record Upto (t : Blocks) (activeHead k : ℕ) (w : Tables) : Type 0 where
+  good : Good (w .blocks) (w .heads) activeHead (λ i. i < k)
   lower : (s : ℕ) → inUse (w .heads) s ≡ true → tipOf (w .heads) s < k
   steady : Steady NONE t (w .blocks)
   sizes : size (w .blocks) ≡ size t
 
-module _ (arrival top k : ℕ) (w : Tables) where
+module _ (arrival activeHead k : ℕ) (w : Tables) where
   abbrev leaf? : Bool
-  leaf? = holds (w .blocks) k && childless (w .blocks .parents) (w .blocks .sequences) k
+  leaf? = isOccupied (w .blocks) k && childless (w .blocks .parents) (w .blocks .sequences) k
 
-  turn-yes : leaf? ≡ true → rebuildAt arrival top k w ≡ insertHead w k arrival NONE zeroHash top
+  turn-yes : leaf? ≡ true → rebuildAt arrival activeHead k w ≡ insertHead w k arrival NONE zeroHash activeHead
   unfolding rebuildAt
   turn-yes e = rw e
 
-  turn-no : leaf? ≡ false → rebuildAt arrival top k w ≡ w
+  turn-no : leaf? ≡ false → rebuildAt arrival activeHead k w ≡ w
   unfolding rebuildAt
   turn-no e = rw e
 
-  once-upto : (t : Blocks) → Upto t top k w → Upto t top (suc k) (rebuildAt arrival top k w)
+  once-upto : (t : Blocks) → Upto t activeHead k w → Upto t activeHead (suc k) (rebuildAt arrival activeHead k w)
   unfolding childless
   once-upto t p = let f = p .good .frame in split leaf?
       (λ e.
-      let c = and-true (holds (w .blocks) k) (childless (w .blocks .parents) (w .blocks .sequences) k) e in
-      let d = insert-done (w .blocks) (w .heads) top k arrival NONE zeroHash (onChain (w .blocks) k) (λ i. i < k) (λ i. i < suc k) (λ i l ne. omega arith) (record {
+      let c = and-true (isOccupied (w .blocks) k) (childless (w .blocks .parents) (w .blocks .sequences) k) e in
+      let d = insert-done (w .blocks) (w .heads) activeHead k arrival NONE zeroHash (isActive (w .blocks) k) (λ i. i < k) (λ i. i < suc k) (λ i l ne. omega arith) (record {
         good = p .good;
         home = c .0;
         fresh = refl;
@@ -82,7 +82,7 @@ module _ (arrival top k : ℕ) (w : Tables) where
       rw (turn-yes e) (record {
         good = d .good;
         lower = d .from (λ i. i < suc k) (omega arith) (λ r u. omega (arith, p .lower r u));
-        steady = steady-trans NONE t (w .blocks) ((insertHead w k arrival NONE zeroHash top) .blocks) (p .steady) (d .steady);
+        steady = steady-trans NONE t (w .blocks) ((insertHead w k arrival NONE zeroHash activeHead) .blocks) (p .steady) (d .steady);
         sizes = d .sizes ∙ p .sizes;
       }))
       (λ e. rw (turn-no e) (record {
@@ -106,27 +106,27 @@ module _ (arrival top k : ℕ) (w : Tables) where
         sizes = p .sizes;
       }))
 
-all-upto : (arrival top : ℕ) (t : Blocks) (w : Tables) → Upto t top 0 w → (k : ℕ) → Upto t top k (inOrder (rebuildAt arrival top) k w)
+all-upto : (arrival activeHead : ℕ) (t : Blocks) (w : Tables) → Upto t activeHead 0 w → (k : ℕ) → Upto t activeHead k (inOrder (rebuildAt arrival activeHead) k w)
 unfolding inOrder
-all-upto arrival top t w p zero = p
-all-upto arrival top t w p (suc k) = once-upto arrival top k (inOrder (rebuildAt arrival top) k w) t (all-upto arrival top t w p k)
+all-upto arrival activeHead t w p zero = p
+all-upto arrival activeHead t w p (suc k) = once-upto arrival activeHead k (inOrder (rebuildAt arrival activeHead) k w) t (all-upto arrival activeHead t w p k)
 
 -- what restart asks of the blocks, whatever their counts
-pub record Trunk (t : Blocks) (top : ℕ) : Type 0 where
+pub record Trunk (t : Blocks) (activeHead : ℕ) : Type 0 where
   pub shape : Shape t
   pub linked : Linked t
   pub voids : Voids t
-  pub chained : Chained t top
-  pub few : (i : ℕ) → holds t i ≡ true → childrenOf t i ≤ 255
+  pub chained : Chained t activeHead
+  pub few : (i : ℕ) → isOccupied t i ≡ true → childrenOf t i ≤ maxCount
 
-pub frame-trunk : (t : Blocks) (h : Heads) (top : ℕ) → Frame t h top All → Trunk t top
-frame-trunk t h top f = record { shape = f .counts .shape; linked = f .counts .linked; voids = f .voids; chained = f .chained; few = few-kids t h top f }
+pub frame-trunk : (t : Blocks) (h : Heads) (activeHead : ℕ) → Frame t h activeHead All → Trunk t activeHead
+frame-trunk t h activeHead f = record { shape = f .counts .shape; linked = f .counts .linked; voids = f .voids; chained = f .chained; few = few-kids t h activeHead f }
 
-module _ (t : Blocks) (h : Heads) (top arrival : ℕ) (r : Room h) (b : Trunk t top) where
+module _ (t : Blocks) (h : Heads) (activeHead arrival : ℕ) (r : Room h) (b : Trunk t activeHead) where
   abbrev start : Tables
   start = headless (record { blocks = t; heads = h })
 
-  begins : Upto t top 0 start
+  begins : Upto t activeHead 0 start
   begins = let m = room h in
       record {
         good = record {
@@ -148,18 +148,18 @@ module _ (t : Blocks) (h : Heads) (top arrival : ℕ) (r : Room h) (b : Trunk t 
       }
 
   -- its heads half made
-  pub half-good : (k : ℕ) → Good (rebuiltBelow k start arrival top .blocks) (rebuiltBelow k start arrival top .heads) top (λ i. i < k)
-  half-good k = all-upto arrival top t start begins k .good
+  pub half-good : (k : ℕ) → Good (rebuiltBelow k start arrival activeHead .blocks) (rebuiltBelow k start arrival activeHead .heads) activeHead (λ i. i < k)
+  half-good k = all-upto arrival activeHead t start begins k .good
 
-  pub restart-done : Good (restarted (record { blocks = t; heads = h }) arrival top .blocks) (restarted (record { blocks = t; heads = h }) arrival top .heads) top All
-      × Steady NONE t (restarted (record { blocks = t; heads = h }) arrival top .blocks)
+  pub restart-done : Good (restarted (record { blocks = t; heads = h }) arrival activeHead .blocks) (restarted (record { blocks = t; heads = h }) arrival activeHead .heads) activeHead All
+      × Steady NONE t (restarted (record { blocks = t; heads = h }) arrival activeHead .blocks)
   unfolding restarted rebuilt rebuildHeads
   restart-done =
       let n = slotsOf (t .sequences) in
-      let w : Tables = inOrder (rebuildAt arrival top) n start in
-      let p = all-upto arrival top t start begins n in
+      let w : Tables = inOrder (rebuildAt arrival activeHead) n start in
+      let p = all-upto arrival activeHead t start begins n in
       let f = p .good .frame in
-      let full : Good (w .blocks) (w .heads) top All = record {
+      let full : Good (w .blocks) (w .heads) activeHead All = record {
         frame = record {
           counts = f .counts;
           voids = f .voids;
@@ -167,11 +167,11 @@ module _ (t : Blocks) (h : Heads) (top arrival : ℕ) (r : Room h) (b : Trunk t 
           blanks = f .blanks;
           tips = f .tips;
           apart = f .apart;
-          covered = λ i _ o a z. f .covered i (let l = holds-lt (w .blocks) i o in let e = p .sizes in let k = kids-slots t (b .shape) in omega arith) o a z;
+          covered = λ i _ o a z. f .covered i (let l = occupied-lt (w .blocks) i o in let e = p .sizes in let k = kids-slots t (b .shape) in omega arith) o a z;
           chained = f .chained;
         };
         anchored = p .good .anchored;
       } in (
-        recounted-good (w .blocks) (w .heads) top All full (few-kids (w .blocks) (w .heads) top (full .frame)),
+        recounted-good (w .blocks) (w .heads) activeHead All full (few-kids (w .blocks) (w .heads) activeHead (full .frame)),
         steady-trans NONE t (w .blocks) (recounted (w .blocks)) (p .steady) (recounted-steady (w .blocks)),
       )

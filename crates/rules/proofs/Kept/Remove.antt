@@ -9,7 +9,7 @@ use Rattle.rules.specs.BlockTable.{markSubtree}
 use Rattle.rules.specs.Removal.{recounted, listed, blocksDeleted, freeAll, removed}
 use Rattle.rules.specs.Calls.{holdsActive}
 use Rattle.rules.proofs.Splits.{split, true-not-false}
-use Rattle.rules.proofs.Kept.Table.{holds, onChain, holds-real}
+use Rattle.rules.proofs.Kept.Table.{isOccupied, isActive, occupied-real}
 use Rattle.rules.proofs.Kept.Steady.{Steady}
 use Rattle.rules.proofs.Kept.Frame.{Frame, Good, All}
 use Rattle.rules.proofs.Kept.Leaves.{children-bound}
@@ -18,13 +18,13 @@ use Rattle.rules.proofs.Kept.Sweep.{recounted-kids, recounted-voids, re
 use Rattle.rules.proofs.Kept.Left.{Left, left-is}
 use Rattle.rules.proofs.Kept.HeadsLeft.{HeadsOf, h2, heads-left}
 
-module _ (t u : Blocks) (h : Heads) (top r : ℕ) (deleted : List ℕ) (f : Frame t h top All) (lf : Left t u h top r deleted) (v : Heads) (hl : HeadsOf u v) where
-  final : Frame (recounted u) v top All
+module _ (t u : Blocks) (h : Heads) (activeHead r : ℕ) (deleted : List ℕ) (f : Frame t h activeHead All) (lf : Left t u h activeHead r deleted) (v : Heads) (hl : HeadsOf u v) where
+  final : Frame (recounted u) v activeHead All
   final = record {
     counts = recounted-kept u (lf .shape) (lf .linked) (λ i o.
         let (m, oi) = lf .there i o in
         let n = lf .fewer i in
-        omega (arith, f .roomy .few, children-bound t h top All f (λ _. tt) i (holds-real t i (f .counts .shape) oi)));
+        omega (arith, f .roomy .few, children-bound t h activeHead All f (λ _. tt) i (occupied-real t i (f .counts .shape) oi)));
     voids = recounted-voids u (lf .shape) (lf .voids);
     roomy = hl .roomy;
     blanks = hl .blanks;
@@ -37,21 +37,21 @@ module _ (t u : Blocks) (h : Heads) (top r : ℕ) (deleted : List ℕ) (f : Fram
   steady-left : Steady NONE t (recounted u)
   steady-left = record {
     keeps = λ i o a.
-        let k = lf .stay i (split (listed deleted i) (λ m. true-not-false {b = onChain t i} a (lf .off i m)) (λ e. e)) in
+        let k = lf .stay i (split (listed deleted i) (λ m. true-not-false {b = isActive t i} a (lf .off i m)) (λ e. e)) in
         (k .hold ∙ o, k .chain ∙ a, λ _. k .parent);
     back = λ i o a. let (m, oi) = lf .there i o in (oi, sym (lf .stay i m .chain) ∙ a);
     same = λ i _ o. let (m, oi) = lf .there i o in let k = lf .stay i m in (oi, k .seq, k .hash);
   }
 
-pub remove-done : (t : Blocks) (h : Heads) (top r : ℕ) → Good t h top All → holds t r ≡ true → holdsActive t r ≡ false
-    → Good (removed (record { blocks = t; heads = h }) r .blocks) (removed (record { blocks = t; heads = h }) r .heads) top All
+pub remove-done : (t : Blocks) (h : Heads) (activeHead r : ℕ) → Good t h activeHead All → isOccupied t r ≡ true → holdsActive t r ≡ false
+    → Good (removed (record { blocks = t; heads = h }) r .blocks) (removed (record { blocks = t; heads = h }) r .heads) activeHead All
     × Steady NONE t (removed (record { blocks = t; heads = h }) r .blocks)
 unfolding removed blocksDeleted
-remove-done t h top r g root free =
+remove-done t h activeHead r g root free =
     let deleted = markSubtree (t .parents) (t .sequences) r in
     let u : Blocks = freeAll deleted t in
     let f = g .frame in
-    let lf = left-is t h top r f root free in
-    let v : Heads = h2 t u h top r deleted f lf in
-    let hl = heads-left t u h top r deleted f lf in
-    (recomputed _ top All v (final t u h top r deleted f lf v hl), steady-left t u h top r deleted f lf v hl)
+    let lf = left-is t h activeHead r f root free in
+    let v : Heads = h2 t u h activeHead r deleted f lf in
+    let hl = heads-left t u h activeHead r deleted f lf in
+    (recomputed _ activeHead All v (final t u h activeHead r deleted f lf v hl), steady-left t u h activeHead r deleted f lf v hl)

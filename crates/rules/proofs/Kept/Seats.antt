@@ -9,10 +9,10 @@ use lib.ListN.{length, length-set, List·getD-eq-default}
 use lib.Seq.{getD-set-same, getD-set-other}
 use borrow.Author.Tests.{eqb-true, eqb-false, ne-eqb, not-true, not-false}
 use Rattle.rules.specs.Hashes.{hashLength}
-use Rattle.rules.specs.Records.{NONE, Heads, tipAt, used, slotsOf, bit0, emptyHead, putHead, clear}
+use Rattle.rules.specs.Records.{NONE, Heads, tipAt, used, slotsOf, bit0, emptyHead, putHead, clear, headAt}
 use Rattle.rules.specs.Anchor.{Anchor, connection, tail}
-use Rattle.rules.specs.Promises.{headAt}
 use Rattle.rules.specs.declared.Head.{Head}
+use Rattle.rules.specs.Calls.{minHeads, maxHeads}
 use Rattle.rules.proofs.Splits.{same?, less?, true-not-false}
 use Rattle.rules.proofs.Cells.{getD-set-default}
 use Rattle.rules.proofs.Kept.Bytes.{put-hash-other, put-hash-here, put-hash-length, zero-length}
@@ -38,8 +38,8 @@ abbrev pub kept : Heads → ℕ → Anchor
 kept h k = keptBy (headAt h k)
 
 pub record Room (h : Heads) : Type 0 where
-  pub two : 2 ≤ room h
-  pub few : room h ≤ 64
+  pub two : minHeads ≤ room h
+  pub few : room h ≤ maxHeads
   pub tailed : length (h .tails) ≡ room h
   pub missed : length (h .missing) ≡ room h * hashLength
   pub asked : length (h .requested) ≡ room h

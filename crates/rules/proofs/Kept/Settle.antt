@@ -6,9 +6,8 @@ use mathlib.Core.List.{List}
 use Prim.Native.Nat.{ℕ, zero, suc, _≤_, _<_}
 use native.Mathlib.Omega.{arith}
 use Rattle.rules.specs.Common.{inOrder}
-use Rattle.rules.specs.Records.{Blocks, Heads}
+use Rattle.rules.specs.Records.{Blocks, Heads, headAt}
 use Rattle.rules.specs.Caches.{recomputeHead}
-use Rattle.rules.specs.Promises.{headAt}
 use Rattle.rules.specs.declared.Head.{Head}
 use Rattle.rules.proofs.Splits.{same?}
 use Rattle.rules.proofs.Kept.Ends.{Ends, located, anchor-ends}
@@ -25,7 +24,7 @@ pub record Redone (t : Blocks) (k : ℕ) (h u : Heads) : Type 0 where
 abbrev pub Turn : Blocks → ℕ → Heads → Heads → Type 0
 Turn t k h u = (u ≡ h) ⊎ Redone t k h u
 
-module _ (t : Blocks) (h : Heads) (top : ℕ) (C : ℕ → Type 0) (g : Frame t h top C) where
+module _ (t : Blocks) (h : Heads) (activeHead : ℕ) (C : ℕ → Type 0) (g : Frame t h activeHead C) where
   pub redone : (k arriving : ℕ) (previous : List ℕ) → inUse h k ≡ true → Redone t k h (recomputeHead t h k arriving previous)
   redone k arriving previous u = record {
     busy = u;
@@ -40,10 +39,10 @@ module _ (t : Blocks) (h : Heads) (top : ℕ) (C : ℕ → Type 0) (g : Frame t 
         (λ q. rw q (seat-taken h u k (tipOf h k) (r .seat) (use-lt h k (r .busy)) (use-ne h k (r .busy)) ∙ sym (r .busy)))
         (λ ne. seat-use h u k (tipOf h k) (r .seat) s ne)
 
-    turn-frame : Turn t k h u → Frame t u top C
+    turn-frame : Turn t k h u → Frame t u activeHead C
     turn-frame (inl q) = rw q g
     turn-frame (inr r) = let p = g .tips k (r .busy) in
-        seat-frame t h u top k (tipOf h k) C C g (r .seat) (use-lt h k (r .busy)) (p .0) (p .1)
+        seat-frame t h u activeHead k (tipOf h k) C C g (r .seat) (use-lt h k (r .busy)) (p .0) (p .1)
         (λ s ne us q. ne (g .apart s k us (r .busy) q))
         (λ i c ne. (c, λ _ q. ne (sym q)))
 
@@ -68,38 +67,38 @@ module _ (t : Blocks) (h : Heads) (top : ℕ) (C : ℕ → Type 0) (g : Frame t 
 
 -- ---- a loop of such turns
 
-module _ (t : Blocks) (top : ℕ) (C : ℕ → Type 0) (act : ℕ → Heads → Heads) (turn : (k : ℕ) (h : Heads) → Frame t h top C → Turn t k h (act k h)) (h : Heads) (g : Frame t h top C) where
-  pub loop-frame : (n : ℕ) → Frame t (inOrder act n h) top C
+module _ (t : Blocks) (activeHead : ℕ) (C : ℕ → Type 0) (act : ℕ → Heads → Heads) (turn : (k : ℕ) (h : Heads) → Frame t h activeHead C → Turn t k h (act k h)) (h : Heads) (g : Frame t h activeHead C) where
+  pub loop-frame : (n : ℕ) → Frame t (inOrder act n h) activeHead C
   unfolding inOrder
   loop-frame zero = g
-  loop-frame (suc n) = turn-frame t (inOrder act n h) top C (loop-frame n) (act n (inOrder act n h)) n (turn n (inOrder act n h) (loop-frame n))
+  loop-frame (suc n) = turn-frame t (inOrder act n h) activeHead C (loop-frame n) (act n (inOrder act n h)) n (turn n (inOrder act n h) (loop-frame n))
 
   pub loop-use : (n s : ℕ) → inUse (inOrder act n h) s ≡ inUse h s
   unfolding inOrder
   loop-use zero s = refl
-  loop-use (suc n) s = turn-use t (inOrder act n h) top C (loop-frame n) (act n (inOrder act n h)) n (turn n (inOrder act n h) (loop-frame n)) s ∙ loop-use n s
+  loop-use (suc n) s = turn-use t (inOrder act n h) activeHead C (loop-frame n) (act n (inOrder act n h)) n (turn n (inOrder act n h) (loop-frame n)) s ∙ loop-use n s
 
   module _ (need : Head → Type 0) (a : Apt t h need) where
     pub loop-apt : (n : ℕ) → Apt t (inOrder act n h) need
     unfolding inOrder
     loop-apt zero = a
-    loop-apt (suc n) = turn-apt t (inOrder act n h) top C (loop-frame n) (act n (inOrder act n h)) n need (turn n (inOrder act n h) (loop-frame n)) (loop-apt n)
+    loop-apt (suc n) = turn-apt t (inOrder act n h) activeHead C (loop-frame n) (act n (inOrder act n h)) n need (turn n (inOrder act n h) (loop-frame n)) (loop-apt n)
 
-    module _ (must : (k : ℕ) (u : Heads) → Frame t u top C → inUse u k ≡ true → need (headAt u k) → Redone t k u (act k u)) where
-      last : (n : ℕ) (u : Heads) (f : Frame t u top C) → Apt t u need → (s : ℕ) → inUse u s ≡ true → (s ≢ n → Ends t (tipOf u s) (kept u s)) → Ends t (tipOf (act n u) s) (kept (act n u) s)
+    module _ (must : (k : ℕ) (u : Heads) → Frame t u activeHead C → inUse u k ≡ true → need (headAt u k) → Redone t k u (act k u)) where
+      last : (n : ℕ) (u : Heads) (f : Frame t u activeHead C) → Apt t u need → (s : ℕ) → inUse u s ≡ true → (s ≢ n → Ends t (tipOf u s) (kept u s)) → Ends t (tipOf (act n u) s) (kept (act n u) s)
       last n u f b s us rest = same? s n
           (λ q. elim (b s us) [
-            | inl x ↦ turn-right t u top C f (act n u) n (turn n u f) s x
-            | inr e ↦ rw q (redone-ends t u top C f (act n u) n (must n u f (rw q at us) (rw q at e)))
+            | inl x ↦ turn-right t u activeHead C f (act n u) n (turn n u f) s x
+            | inr e ↦ rw q (redone-ends t u activeHead C f (act n u) n (must n u f (rw q at us) (rw q at e)))
           ])
-          (λ ne. turn-right t u top C f (act n u) n (turn n u f) s (rest ne))
+          (λ ne. turn-right t u activeHead C f (act n u) n (turn n u f) s (rest ne))
 
       settled : (n s : ℕ) → s < n → inUse h s ≡ true → Ends t (tipOf (inOrder act n h) s) (kept (inOrder act n h) s)
       unfolding inOrder
       settled zero s l u = absurd (omega arith)
       settled (suc n) s l u = last n (inOrder act n h) (loop-frame n) (loop-apt n) s (loop-use n s ∙ u) (λ ne. settled n s (omega arith) u)
 
-      pub loop-good : (n : ℕ) → room h ≤ n → Good t (inOrder act n h) top C
+      pub loop-good : (n : ℕ) → room h ≤ n → Good t (inOrder act n h) activeHead C
       loop-good n le = record {
         frame = loop-frame n;
         anchored = λ s u. let us = sym (loop-use n s) ∙ u in settled n s (let l = use-lt h s us in omega arith) us;

@@ -8,8 +8,8 @@ use lib.Dec.{eqb, leb}
 use lib.ListN.{length}
 use borrow.Author.Tests.{eqb-true, eq-eqb, leb-true, le-leb}
 use Rattle.rules.specs.Hashes.{hashLength}
-use Rattle.rules.specs.Records.{Tables}
-use Rattle.rules.specs.Calls.{blocksFit, headsFit, shaped, blocksIn, headsIn}
+use Rattle.rules.specs.Records.{Tables, blocksFit, headsFit}
+use Rattle.rules.specs.Calls.{shaped, blocksIn, headsIn, maxBlocks, minHeads, maxHeads}
 use Rattle.rules.proofs.Splits.{and-true}
 use Rattle.rules.proofs.Kept.Table.{Shape}
 use Rattle.rules.proofs.Kept.Seats.{Room}
@@ -29,9 +29,9 @@ module _ (t : Tables) where
       let e = s .parents in
       rw (
         le-leb 1 n (omega (arith, s .some)),
-        le-leb n 1024 (omega (arith, s .small)),
-        le-leb 2 m (r .two),
-        le-leb m 64 (r .few),
+        le-leb n maxBlocks (omega (arith, s .small)),
+        le-leb minHeads m (r .two),
+        le-leb m maxHeads (r .few),
         eq-eqb (length (b .hashes)) (n * hashLength) (omega (arith, s .hashed)),
         eq-eqb (length (b .sequences)) n (sym e),
         eq-eqb (length (b .counts)) n (omega (arith, s .counts)),
@@ -48,14 +48,14 @@ module _ (t : Tables) where
   shaped-shape e =
       let b = t .blocks in
       let h = t .heads in
-      let few = leb 1 n && leb n 1024 in
+      let few = leb 1 n && leb n maxBlocks in
       let fits = eqb (length (b .hashes)) (n * hashLength) && eqb (length (b .sequences)) n in
       let heads = eqb (length (h .tails)) m && eqb (length (h .missing)) (m * hashLength) in
-      let a1 = and-true (few && leb 2 m && leb m 64 && blocksFit b n) (headsFit h m) e in
-      let a2 = and-true (few && leb 2 m && leb m 64) (blocksFit b n) (a1 .0) in
-      let a3 = and-true (few && leb 2 m) (leb m 64) (a2 .0) in
-      let a4 = and-true few (leb 2 m) (a3 .0) in
-      let a5 = and-true (leb 1 n) (leb n 1024) (a4 .0) in
+      let a1 = and-true (few && leb minHeads m && leb m maxHeads && blocksFit b n) (headsFit h m) e in
+      let a2 = and-true (few && leb minHeads m && leb m maxHeads) (blocksFit b n) (a1 .0) in
+      let a3 = and-true (few && leb minHeads m) (leb m maxHeads) (a2 .0) in
+      let a4 = and-true few (leb minHeads m) (a3 .0) in
+      let a5 = and-true (leb 1 n) (leb n maxBlocks) (a4 .0) in
       let b1 = and-true (fits && eqb (length (b .counts)) n) (eqb (length (b .flags)) n) (a2 .1) in
       let b2 = and-true fits (eqb (length (b .counts)) n) (b1 .0) in
       let b3 = and-true (eqb (length (b .hashes)) (n * hashLength)) (eqb (length (b .sequences)) n) (b2 .0) in
@@ -65,7 +65,7 @@ module _ (t : Tables) where
       let c4 = and-true (eqb (length (h .tails)) m) (eqb (length (h .missing)) (m * hashLength)) (c3 .0) in
       let q = eqb-true (length (b .sequences)) n (b3 .1) in
       let one = leb-true 1 n (a5 .0) in
-      let many = leb-true n 1024 (a5 .1) in
+      let many = leb-true n maxBlocks (a5 .1) in
       let w = eqb-true (length (b .hashes)) (n * hashLength) (b3 .0) in (
         record {
           some = omega arith;
@@ -76,8 +76,8 @@ module _ (t : Tables) where
           hashed = omega arith;
         },
         record {
-          two = leb-true 2 m (a4 .1);
-          few = leb-true m 64 (a3 .1);
+          two = leb-true minHeads m (a4 .1);
+          few = leb-true m maxHeads (a3 .1);
           tailed = eqb-true (length (h .tails)) m (c4 .0);
           missed = eqb-true (length (h .missing)) (m * hashLength) (c4 .1);
           asked = eqb-true (length (h .requested)) m (c3 .1);

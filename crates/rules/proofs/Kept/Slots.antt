@@ -16,16 +16,16 @@ use Rattle.rules.proofs.Splits.{same?, true-not-false, and-false-r}
 use Rattle.rules.proofs.Cells.{getD-set-default}
 use Rattle.rules.proofs.Kept.Counting.{count-ext, count-drop}
 use Rattle.rules.proofs.Kept.Bytes.{put-hash-other, put-hash-here, put-hash-length, zero-length}
-use Rattle.rules.proofs.Kept.Table.{size, seqOf, parentOf, countOf, hashOf, holds, onChain, setCount, setParent, Shape, holds-lt}
+use Rattle.rules.proofs.Kept.Table.{size, seqOf, parentOf, countOf, hashOf, isOccupied, isActive, setCount, setParent, Shape, occupied-lt}
 
 -- the same block in a slot of both tables
 pub record Same (t u : Blocks) (j : ℕ) : Type 0 where
-  pub hold : holds u j ≡ holds t j
+  pub hold : isOccupied u j ≡ isOccupied t j
   pub seq : seqOf u j ≡ seqOf t j
   pub parent : parentOf u j ≡ parentOf t j
   pub count : countOf u j ≡ countOf t j
   pub hash : hashOf u j ≡ hashOf t j
-  pub chain : onChain u j ≡ onChain t j
+  pub chain : isActive u j ≡ isActive t j
 
 pub same-block : (t u : Blocks) (j : ℕ) → blockAt u j ≡ blockAt t j → Same t u j
 unfolding blockAt occupied active
@@ -61,11 +61,11 @@ module _ (t u : Blocks) (i : ℕ) (b : But t u i) where
     pub but-hash : hashOf u j ≡ hashOf t j
     but-hash = same .hash
 
-    pub but-chain : onChain u j ≡ onChain t j
+    pub but-chain : isActive u j ≡ isActive t j
     but-chain = same .chain
 
-    pub but-holds : holds u j ≡ holds t j
-    but-holds = same .hold
+    pub but-occupied : isOccupied u j ≡ isOccupied t j
+    but-occupied = same .hold
 
   -- the children of k, where slot i is one before and after or neither
   pub but-kids : (k : ℕ) → isChild u k i ≡ isChild t k i → childrenOf u k ≡ childrenOf t k
@@ -122,7 +122,7 @@ module _ (t : Blocks) (i : ℕ) where
   pub erase-but : But t (erase t i) i
   erase-but = put-but t i _ zero-length
 
-  pub erase-empty : holds (erase t i) i ≡ false
+  pub erase-empty : isOccupied (erase t i) i ≡ false
   unfolding putBlock occupied
   erase-empty = rw (getD-set-default (t .sequences) i NONE)
 
@@ -134,9 +134,9 @@ module _ (t : Blocks) (i : ℕ) where
   pub erase-kids-other : (k : ℕ) → parentOf t i ≢ k → childrenOf (erase t i) k ≡ childrenOf t k
   erase-kids-other k ne = but-kids t (erase t i) i erase-but k (erased k ∙ sym (rw (ne-eqb (parentOf t i) k ne) (and-false-r (not (eqb (seqOf t i) NONE)) false refl)))
 
-  pub erase-kids-parent : holds t i ≡ true → childrenOf t (parentOf t i) ≡ suc (childrenOf (erase t i) (parentOf t i))
+  pub erase-kids-parent : isOccupied t i ≡ true → childrenOf t (parentOf t i) ≡ suc (childrenOf (erase t i) (parentOf t i))
   unfolding occupied
-  erase-kids-parent o = but-loses t (erase t i) i erase-but (parentOf t i) (holds-lt t i o) (erased (parentOf t i)) (rw (o, eq-eqb (parentOf t i) (parentOf t i) refl))
+  erase-kids-parent o = but-loses t (erase t i) i erase-but (parentOf t i) (occupied-lt t i o) (erased (parentOf t i)) (rw (o, eq-eqb (parentOf t i) (parentOf t i) refl))
 
 -- ---- a count, a parent
 
@@ -149,8 +149,8 @@ module _ (t : Blocks) (i c : ℕ) where
     rest = λ j ne. rw (getD-set-other (t .counts) i j c 0 ne);
   }
 
-  pub count-here : Shape t → holds t i ≡ true → countOf (setCount t i c) i ≡ c
-  count-here s o = getD-set-same (t .counts) i c 0 (let l = holds-lt t i o in let k = s .counts in omega arith)
+  pub count-here : Shape t → isOccupied t i ≡ true → countOf (setCount t i c) i ≡ c
+  count-here s o = getD-set-same (t .counts) i c 0 (let l = occupied-lt t i o in let k = s .counts in omega arith)
 
   pub count-kids : (k : ℕ) → childrenOf (setCount t i c) k ≡ childrenOf t k
   unfolding childrenOf
@@ -164,21 +164,21 @@ module _ (t : Blocks) (i c : ℕ) where
     rest = λ j ne. rw (getD-set-other (t .parents) i j c NONE ne);
   }
 
-  pub parent-here : Shape t → holds t i ≡ true → parentOf (setParent t i c) i ≡ c
-  parent-here s o = getD-set-same (t .parents) i c NONE (let l = holds-lt t i o in let k = s .parents in omega arith)
+  pub parent-here : Shape t → isOccupied t i ≡ true → parentOf (setParent t i c) i ≡ c
+  parent-here s o = getD-set-same (t .parents) i c NONE (let l = occupied-lt t i o in let k = s .parents in omega arith)
 
 -- ---- empty slots are the fixed record
 
 abbrev pub Voids : Blocks → Type 0
-Voids t = (i : ℕ) → holds t i ≡ false → blockAt t i ≡ emptyBlock
+Voids t = (i : ℕ) → isOccupied t i ≡ false → blockAt t i ≡ emptyBlock
 
 -- a change of an occupied slot that leaves it occupied
-pub but-voids : (t u : Blocks) (i : ℕ) → But t u i → holds u i ≡ true → Voids t → Voids u
+pub but-voids : (t u : Blocks) (i : ℕ) → But t u i → isOccupied u i ≡ true → Voids t → Voids u
 but-voids t u i b o v j e = same? j i
-    (λ q. true-not-false {b = holds u i} o (rw q at e))
-    (λ ne. b .rest j ne ∙ v j (sym (but-holds t u i b j ne) ∙ e))
+    (λ q. true-not-false {b = isOccupied u i} o (rw q at e))
+    (λ ne. b .rest j ne ∙ v j (sym (but-occupied t u i b j ne) ∙ e))
 
-pub erase-voids : (t : Blocks) (i : ℕ) → Shape t → holds t i ≡ true → Voids t → Voids (erase t i)
+pub erase-voids : (t : Blocks) (i : ℕ) → Shape t → isOccupied t i ≡ true → Voids t → Voids (erase t i)
 erase-voids t i s o v j e = same? j i
-    (λ q. rw q (put-here t i _ zero-length s (holds-lt t i o)))
-    (λ ne. erase-but t i .rest j ne ∙ v j (sym (but-holds t (erase t i) i (erase-but t i) j ne) ∙ e))
+    (λ q. rw q (put-here t i _ zero-length s (occupied-lt t i o)))
+    (λ ne. erase-but t i .rest j ne ∙ v j (sym (but-occupied t (erase t i) i (erase-but t i) j ne) ∙ e))

@@ -9,24 +9,24 @@ use lib.Dec.{leb}
 use lib.ListN.{length, length-set}
 use lib.Seq.{getD-set-other}
 use Rattle.rules.specs.Hashes.{hashAt}
-use Rattle.rules.specs.Records.{NONE, Blocks, Heads, tipAt, tailAt, requestedAt, sequenceAt, occupied, stored, slotsOf}
+use Rattle.rules.specs.Records.{NONE, Blocks, Heads, tipAt, tailAt, requestedAt, sequenceAt, occupied, stored, slotsOf, withRequested, headAt, withHeads}
 use Rattle.rules.specs.BlockTable.{markSubtree}
 use Rattle.rules.specs.Removal.{removed}
 use Rattle.rules.specs.Rebuild.{restarted}
 use Rattle.rules.specs.Timer.{Ask, spanOr, due, mayAsk, asksBefore, chosen, claimed, askAt, recovery, markRequested}
 use Rattle.rules.specs.Answers.{done, freed, request, noneDue}
-use Rattle.rules.specs.Calls.{State, promoteCall, removeCall, timerCall, restartCall, holdsActive, remove, withRequested, asked, timer, restart}
-use Rattle.rules.specs.Promises.{headAt, Sound}
+use Rattle.rules.specs.Calls.{State, promoteCall, removeCall, timerCall, restartCall, holdsActive, remove, asked, timer, restart}
+use Rattle.rules.specs.Promises.{Sound}
 use Rattle.rules.proofs.Splits.{split, option?, and-true, true-not-false}
 use Rattle.rules.proofs.Kept.Choice.{best-passes}
-use Rattle.rules.proofs.Kept.Table.{holds}
+use Rattle.rules.proofs.Kept.Table.{isOccupied}
 use Rattle.rules.proofs.Kept.Steady.{steady-refl}
 use Rattle.rules.proofs.Kept.Seats.{inUse, keptBy}
 use Rattle.rules.proofs.Kept.Frame.{Good, All}
 use Rattle.rules.proofs.Kept.Refresh.{stored-use}
 use Rattle.rules.proofs.Kept.Remove.{remove-done}
 use Rattle.rules.proofs.Kept.Rebuild.{restart-done, frame-trunk}
-use Rattle.rules.proofs.Kept.Walked.{blocksOf, headsOf}
+use Rattle.rules.proofs.Kept.Walked.{itsBlocks, itsHeads}
 use Rattle.rules.proofs.Kept.Border.{sound-good}
 use Rattle.rules.proofs.Kept.Went.{Went, quiet, turned-away}
 
@@ -38,11 +38,11 @@ module _ (s : State) (r : ℕ) (z : Sound s) where
 
   pub went-remove : Went (removeCall r) s (remove s r)
   unfolding remove
-  went-remove = rw (z .tree .shape) (split (holds (blocksOf s) r)
-      (λ o. split (holdsActive (blocksOf s) r)
+  went-remove = rw (z .tree .shape) (split (isOccupied (itsBlocks s) r)
+      (λ o. split (holdsActive (itsBlocks s) r)
       (λ e. rw (o, e) (turned-away (removeCall r) s 9 z))
       (λ e.
-      let d = remove-done (blocksOf s) (headsOf s) (s .activeHead) r (sound-good s z) o e in
+      let d = remove-done (itsBlocks s) (itsHeads s) (s .activeHead) r (sound-good s z) o e in
       rw (o, e) (quiet (removeCall r) s (removed (s .tables) r) (freed (length (markSubtree (s .tables .blocks .parents) (s .tables .blocks .sequences) r))) z
       (d .0) (d .1) (λ _. refl) (λ i q _. not-promote i q))))
       (λ o. rw o (turned-away (removeCall r) s 3 z)))
@@ -57,14 +57,14 @@ module _ (s : State) (now : ℕ) (z : Sound s) where
   unfolding restart
   went-restart =
       let f = sound-good s z .frame in
-      let d = restart-done (blocksOf s) (headsOf s) (s .activeHead) now (f .roomy) (frame-trunk (blocksOf s) (headsOf s) (s .activeHead) f) in
+      let d = restart-done (itsBlocks s) (itsHeads s) (s .activeHead) now (f .roomy) (frame-trunk (itsBlocks s) (itsHeads s) (s .activeHead) f) in
       rw (z .tree .shape) (quiet (restartCall now) s (restarted (s .tables) now (s .activeHead)) done z (d .0) (d .1) (λ _. refl) (λ i q _. restart-not i q))
 
 -- ---- timer
 
 -- only the request time of a head in use changes
-requested-good : (s : State) (k now : ℕ) → Good (blocksOf s) (headsOf s) (s .activeHead) All → inUse (headsOf s) k ≡ true
-    → Good (blocksOf s) (withRequested (s .tables) (markRequested (s .tables .heads .requested) k now) .heads) (s .activeHead) All
+requested-good : (s : State) (k now : ℕ) → Good (itsBlocks s) (itsHeads s) (s .activeHead) All → inUse (itsHeads s) k ≡ true
+    → Good (itsBlocks s) (withRequested (itsHeads s) (markRequested (s .tables .heads .requested) k now)) (s .activeHead) All
 unfolding markRequested headAt keptBy
 requested-good s k now g u =
     let f = g .frame in
@@ -75,7 +75,7 @@ requested-good s k now g u =
         voids = f .voids;
         roomy = record { two = r .two; few = r .few; tailed = r .tailed; missed = r .missed; asked = simp length-set (r .asked); arrived = r .arrived; flagged = r .flagged };
         blanks = λ j e.
-            let ne : j ≢ k = λ q. true-not-false {b = inUse (headsOf s) k} u (rw q at e) in
+            let ne : j ≢ k = λ q. true-not-false {b = inUse (itsHeads s) k} u (rw q at e) in
             rw (getD-set-other (s .tables .heads .requested) k j now 0 ne) (f .blanks j e);
         tips = f .tips;
         apart = f .apart;
@@ -130,7 +130,7 @@ module _ (s : State) (now : ℕ) (span : Option ℕ) (z : Sound s) where
 
   asking : (k claims : ℕ) → inUse h k ≡ true → Went (timerCall now span) s (asked s now (some (record { head = k; claims = claims })))
   unfolding asked
-  asking k claims u = quiet (timerCall now span) s (withRequested (s .tables) (markRequested (h .requested) k now)) (request k claims (hashAt (h .missing) k)) z
+  asking k claims u = quiet (timerCall now span) s (withHeads (s .tables) (withRequested h (markRequested (h .requested) k now))) (request k claims (hashAt (h .missing) k)) z
       (requested-good s k now (sound-good s z) u) (steady-refl NONE b) (λ _. refl) (λ i q _. timer-not i q)
 
   pub went-timer : Went (timerCall now span) s (timer s now span)

@@ -10,11 +10,11 @@ use lib.Seq.{getD-set-same, getD-set-other}
 use borrow.Author.Tests.{eq-eqb, ne-eqb}
 use Rattle.rules.specs.Common.{inOrder}
 use Rattle.rules.specs.Records.{Blocks, occupied, countAt, slotsOf, blockAt, erase}
-use Rattle.rules.specs.BlockTable.{childOf, children, delete}
+use Rattle.rules.specs.BlockTable.{childOf, children, delete, maxCount}
 use Rattle.rules.specs.Removal.{recount, recountAll, recounted, listed, freeAll}
 use Rattle.rules.specs.Promises.{childrenOf}
 use Rattle.rules.proofs.Splits.{split, same?, true-not-false}
-use Rattle.rules.proofs.Kept.Table.{size, holds, Shape, Linked, Kept, holds-lt, kids-slots}
+use Rattle.rules.proofs.Kept.Table.{size, isOccupied, Shape, Linked, Kept, occupied-lt, kids-slots}
 use Rattle.rules.proofs.Kept.Slots.{same-block, But, erase-but, erase-empty, Voids, erase-voids}
 
 -- ---- the listed blocks are freed
@@ -23,30 +23,30 @@ pub record Swept (l : List ℕ) (t u : Blocks) : Type 0 where
   pub sizes : size u ≡ size t
   pub shapes : Shape t → Shape u
   pub voids : Shape t → Voids t → Voids u
-  pub gone : (j : ℕ) → listed l j ≡ true → holds u j ≡ false
+  pub gone : (j : ℕ) → listed l j ≡ true → isOccupied u j ≡ false
   pub stay : (j : ℕ) → listed l j ≡ false → blockAt u j ≡ blockAt t j
 
 module _ (t : Blocks) (i : ℕ) where
-  delete-yes : holds t i ≡ true → delete t i ≡ erase t i
+  delete-yes : isOccupied t i ≡ true → delete t i ≡ erase t i
   unfolding delete
   delete-yes o = rw o
 
-  delete-no : holds t i ≡ false → delete t i ≡ t
+  delete-no : isOccupied t i ≡ false → delete t i ≡ t
   unfolding delete
   delete-no o = rw o
 
   delete-but : But t (delete t i) i
-  delete-but = split (holds t i)
+  delete-but = split (isOccupied t i)
       (λ o. rw (delete-yes o) (erase-but t i))
       (λ o. rw (delete-no o) (record { shapes = λ s. s; sizes = refl; rest = λ _ _. refl }))
 
-  delete-empty : holds (delete t i) i ≡ false
-  delete-empty = split (holds t i)
+  delete-empty : isOccupied (delete t i) i ≡ false
+  delete-empty = split (isOccupied t i)
       (λ o. rw (delete-yes o) (erase-empty t i))
       (λ o. rw (delete-no o) o)
 
   delete-voids : Shape t → Voids t → Voids (delete t i)
-  delete-voids s v = split (holds t i)
+  delete-voids s v = split (isOccupied t i)
       (λ o. rw (delete-yes o) (erase-voids t i s o v))
       (λ o. rw (delete-no o) v)
 
@@ -87,15 +87,15 @@ module _ (p q : List ℕ) where
 
   recount-length : (i : ℕ) (c : List ℕ) → length (recount p q i c) ≡ length c
   unfolding recount
-  recount-length i c = split (occupied q i) (λ o. rw o (length-set c i (min 255 (max 1 (children p q i))))) (λ o. rw o refl)
+  recount-length i c = split (occupied q i) (λ o. rw o (length-set c i (min maxCount (max 1 (children p q i))))) (λ o. rw o refl)
 
   recount-other : (i j : ℕ) (c : List ℕ) → j ≢ i → countAt (recount p q i c) j ≡ countAt c j
   unfolding recount
-  recount-other i j c ne = split (occupied q i) (λ o. rw o (getD-set-other c i j (min 255 (max 1 (children p q i))) 0 ne)) (λ o. rw o refl)
+  recount-other i j c ne = split (occupied q i) (λ o. rw o (getD-set-other c i j (min maxCount (max 1 (children p q i))) 0 ne)) (λ o. rw o refl)
 
-  recount-here : (i : ℕ) (c : List ℕ) → i < length c → occupied q i ≡ true → countAt (recount p q i c) i ≡ min 255 (max 1 (children p q i))
+  recount-here : (i : ℕ) (c : List ℕ) → i < length c → occupied q i ≡ true → countAt (recount p q i c) i ≡ min maxCount (max 1 (children p q i))
   unfolding recount
-  recount-here i c l o = rw o (getD-set-same c i (min 255 (max 1 (children p q i))) 0 l)
+  recount-here i c l o = rw o (getD-set-same c i (min maxCount (max 1 (children p q i))) 0 l)
 
   recount-empty : (i : ℕ) (c : List ℕ) → occupied q i ≡ false → recount p q i c ≡ c
   unfolding recount
@@ -113,7 +113,7 @@ module _ (p q : List ℕ) where
       (λ e. rw (recount-empty n (tally n c) (rw e at o)) (tally-empty n j c o))
       (λ ne. recount-other n j (tally n c) ne ∙ tally-empty n j c o)
 
-  tally-set : (n j : ℕ) (c : List ℕ) → j < n → j < length c → occupied q j ≡ true → countAt (tally n c) j ≡ min 255 (max 1 (children p q j))
+  tally-set : (n j : ℕ) (c : List ℕ) → j < n → j < length c → occupied q j ≡ true → countAt (tally n c) j ≡ min maxCount (max 1 (children p q j))
   unfolding inOrder
   tally-set zero j c l k o = absurd (omega arith)
   tally-set (suc n) j c l k o = same? j n
@@ -145,13 +145,13 @@ module _ (t : Blocks) (s : Shape t) where
   recounted-voids v j e = rw (tally-empty (t .parents) (t .sequences) (slotsOf (t .sequences)) j (t .counts) e) (v j e)
 
   -- the counts are right where no block has more than 255 children
-  pub recounted-kept : Linked t → ((i : ℕ) → holds t i ≡ true → childrenOf t i ≤ 255) → Kept (recounted t)
+  pub recounted-kept : Linked t → ((i : ℕ) → isOccupied t i ≡ true → childrenOf t i ≤ maxCount) → Kept (recounted t)
   unfolding recountAll
   recounted-kept l few = record {
     shape = recounted-shape;
     linked = l;
     counted = λ j o a.
-        let lj = holds-lt t j o in
+        let lj = occupied-lt t j o in
         let k = kids-slots t s in
         let c = s .counts in
         rw (tally-set (t .parents) (t .sequences) (slotsOf (t .sequences)) j (t .counts) (omega arith) (omega arith) o, kids-are j, recounted-kids j) (omega (arith, few j o));

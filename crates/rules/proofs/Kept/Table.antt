@@ -9,9 +9,9 @@ use lib.Dec.{eqb}
 use lib.ListN.{length, set, List·getD-eq-default}
 use borrow.Author.Tests.{eqb-true, eqb-false, eq-eqb, ne-eqb, not-true, not-false}
 use Rattle.rules.specs.Hashes.{hashAt, hashLength}
-use Rattle.rules.specs.Records.{NONE, Blocks, sequenceAt, parentAt, countAt, occupied, active, slotsOf}
-use Rattle.rules.specs.BlockTable.{withCounts, withParents}
+use Rattle.rules.specs.Records.{NONE, Blocks, sequenceAt, parentAt, countAt, occupied, active, slotsOf, withCounts, withParents}
 use Rattle.rules.specs.Promises.{isChild, childrenOf}
+use Rattle.rules.specs.Calls.{maxBlocks}
 use Rattle.rules.proofs.Splits.{split, less?, true-not-false}
 use Rattle.rules.proofs.Kept.Counting.{count-zero}
 
@@ -30,11 +30,11 @@ countOf t i = countAt (t .counts) i
 abbrev pub hashOf : Blocks → ℕ → List ℕ
 hashOf t i = hashAt (t .hashes) i
 
-abbrev pub holds : Blocks → ℕ → Bool
-holds t i = occupied (t .sequences) i
+abbrev pub isOccupied : Blocks → ℕ → Bool
+isOccupied t i = occupied (t .sequences) i
 
-abbrev pub onChain : Blocks → ℕ → Bool
-onChain t i = active (t .flags) i
+abbrev pub isActive : Blocks → ℕ → Bool
+isActive t i = active (t .flags) i
 
 abbrev pub setCount : Blocks → ℕ → ℕ → Blocks
 setCount t i c = withCounts t (set (t .counts) i c)
@@ -46,7 +46,7 @@ setParent t i p = withParents t (set (t .parents) i p)
 
 pub record Shape (t : Blocks) : Type 0 where
   pub some : 1 ≤ size t
-  pub small : size t ≤ 1024
+  pub small : size t ≤ maxBlocks
   pub parents : length (t .parents) ≡ size t
   pub counts : length (t .counts) ≡ size t
   pub flagged : length (t .flags) ≡ size t
@@ -54,46 +54,46 @@ pub record Shape (t : Blocks) : Type 0 where
 
 -- the parent of an occupied block is NONE, or an occupied slot one lower in sequence
 abbrev pub Linked : Blocks → Type 0
-Linked t = (i : ℕ) → holds t i ≡ true → (parentOf t i ≡ NONE) ⊎ ((holds t (parentOf t i) ≡ true) × (suc (seqOf t (parentOf t i)) ≡ seqOf t i))
+Linked t = (i : ℕ) → isOccupied t i ≡ true → (parentOf t i ≡ NONE) ⊎ ((isOccupied t (parentOf t i) ≡ true) × (suc (seqOf t (parentOf t i)) ≡ seqOf t i))
 
 pub record Kept (t : Blocks) : Type 0 where
   pub shape : Shape t
   pub linked : Linked t
-  pub counted : (i : ℕ) → holds t i ≡ true → onChain t i ≡ false → countOf t i ≡ max 1 (childrenOf t i)
+  pub counted : (i : ℕ) → isOccupied t i ≡ true → isActive t i ≡ false → countOf t i ≡ max 1 (childrenOf t i)
 
 -- ---- tests as facts
 
 module _ (t : Blocks) (i : ℕ) where
-  pub holds-ne : holds t i ≡ true → seqOf t i ≢ NONE
+  pub occupied-ne : isOccupied t i ≡ true → seqOf t i ≢ NONE
   unfolding occupied
-  holds-ne h = eqb-false (seqOf t i) NONE (not-true (eqb (seqOf t i) NONE) h)
+  occupied-ne h = eqb-false (seqOf t i) NONE (not-true (eqb (seqOf t i) NONE) h)
 
-  pub ne-holds : seqOf t i ≢ NONE → holds t i ≡ true
+  pub ne-occupied : seqOf t i ≢ NONE → isOccupied t i ≡ true
   unfolding occupied
-  ne-holds h = rw (ne-eqb (seqOf t i) NONE h)
+  ne-occupied h = rw (ne-eqb (seqOf t i) NONE h)
 
-  pub empty-eq : holds t i ≡ false → seqOf t i ≡ NONE
+  pub empty-eq : isOccupied t i ≡ false → seqOf t i ≡ NONE
   unfolding occupied
   empty-eq h = eqb-true (seqOf t i) NONE (not-false (eqb (seqOf t i) NONE) h)
 
-  pub holds-lt : holds t i ≡ true → i < size t
-  holds-lt h = less? i (size t) (λ l. l) (λ l. absurd (holds-ne h (List·getD-eq-default (t .sequences) NONE l)))
+  pub occupied-lt : isOccupied t i ≡ true → i < size t
+  occupied-lt h = less? i (size t) (λ l. l) (λ l. absurd (occupied-ne h (List·getD-eq-default (t .sequences) NONE l)))
 
-  pub holds-real : Shape t → holds t i ≡ true → i ≢ NONE
-  holds-real s o = let l = holds-lt o in let k = s .small in omega arith
+  pub occupied-real : Shape t → isOccupied t i ≡ true → i ≢ NONE
+  occupied-real s o = let l = occupied-lt o in let k = s .small in omega arith
 
-pub none-empty : (t : Blocks) → Shape t → holds t NONE ≡ false
-none-empty t s = split (holds t NONE) (λ e. absurd (let l = holds-lt t NONE e in let k = s .small in omega arith)) (λ e. e)
+pub none-empty : (t : Blocks) → Shape t → isOccupied t NONE ≡ false
+none-empty t s = split (isOccupied t NONE) (λ e. absurd (let l = occupied-lt t NONE e in let k = s .small in omega arith)) (λ e. e)
 
 pub kids-slots : (t : Blocks) → Shape t → slotsOf (t .sequences) ≡ size t
 unfolding slotsOf
 kids-slots t s = let k = s .small in omega arith
 
-pub childless : (t : Blocks) (i j : ℕ) → childrenOf t i ≡ 0 → holds t j ≡ true → parentOf t j ≢ i
+pub childless : (t : Blocks) (i j : ℕ) → childrenOf t i ≡ 0 → isOccupied t j ≡ true → parentOf t j ≢ i
 unfolding childrenOf occupied
 childless t i j h o q =
-    let z : isChild t i j ≡ false = count-zero (isChild t i) (size t) j h (holds-lt t j o) in
+    let z : isChild t i j ≡ false = count-zero (isChild t i) (size t) j h (occupied-lt t j o) in
     true-not-false {b = isChild t i j} (rw (o, eq-eqb (parentOf t j) i q)) z
 
-pub parent-there : (t : Blocks) (i : ℕ) → Linked t → holds t i ≡ true → parentOf t i ≢ NONE → (holds t (parentOf t i) ≡ true) × (suc (seqOf t (parentOf t i)) ≡ seqOf t i)
+pub parent-there : (t : Blocks) (i : ℕ) → Linked t → isOccupied t i ≡ true → parentOf t i ≢ NONE → (isOccupied t (parentOf t i) ≡ true) × (suc (seqOf t (parentOf t i)) ≡ seqOf t i)
 parent-there t i l o ne = elim (l i o) [ inl e ↦ absurd (ne e) | inr p ↦ p ]

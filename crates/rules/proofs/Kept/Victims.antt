@@ -23,46 +23,46 @@ use Rattle.rules.proofs.Kept.Insert.{Fits, insert, insert-is}
 use Rattle.rules.proofs.Kept.Arrive.{root-good}
 use Rattle.rules.proofs.Kept.Admit.{risen}
 use Rattle.rules.proofs.Kept.Rebuild.{Trunk, frame-trunk, half-good}
-use Rattle.rules.proofs.Kept.Walked.{blocksOf, headsOf}
+use Rattle.rules.proofs.Kept.Walked.{itsBlocks, itsHeads}
 use Rattle.rules.proofs.Kept.Border.{sound-good}
 use Rattle.rules.proofs.Kept.AdmitStep.{fits, parent-is, admit-slot}
 
 -- ---- tables without a victim
 
-module _ (t : Tables) (top : ℕ) (full : firstEmpty (t .heads .tips) ≡ none) (nobody : victim (t .blocks .hashes) (t .blocks .sequences) (t .heads .tips) top ≡ none) where
-  no-room-made : makeRoom t top ≡ t
+module _ (t : Tables) (activeHead : ℕ) (full : firstEmpty (t .heads .tips) ≡ none) (nobody : victim (t .blocks .hashes) (t .blocks .sequences) (t .heads .tips) activeHead ≡ none) where
+  no-room-made : makeRoom t activeHead ≡ t
   unfolding makeRoom evictOne
   no-room-made = rw (full, makeRoom) (rw (nobody, evictOne))
 
   -- the new tip gets no head
-  pub no-head-inserted : (tip arrival arriving : ℕ) (previous : List ℕ) → insertHead t tip arrival arriving previous top ≡ t
+  pub no-head-inserted : (tip arrival arriving : ℕ) (previous : List ℕ) → insertHead t tip arrival arriving previous activeHead ≡ t
   unfolding insertHead seatHead
   no-head-inserted tip arrival arriving previous = rw no-room-made (rw (full, seatHead))
 
-  no-leaf-seated : (arrival i : ℕ) → rebuildAt arrival top i t ≡ t
+  no-leaf-seated : (arrival i : ℕ) → rebuildAt arrival activeHead i t ≡ t
   unfolding rebuildAt
   no-leaf-seated arrival i = split (isLeaf t i) (λ e. rw e (no-head-inserted i arrival NONE zeroHash)) (λ e. rw e refl)
 
-module _ (t : Tables) (arrival top k : ℕ) where
+module _ (t : Tables) (arrival activeHead k : ℕ) where
   abbrev w : Tables
-  w = rebuiltBelow k t arrival top
+  w = rebuiltBelow k t arrival activeHead
 
   -- a rebuild adds no more heads
-  pub no-head-rebuilt : firstEmpty (w .heads .tips) ≡ none → victim (w .blocks .hashes) (w .blocks .sequences) (w .heads .tips) top ≡ none
-      → (n : ℕ) → k ≤ n → rebuiltBelow n t arrival top ≡ w
+  pub no-head-rebuilt : firstEmpty (w .heads .tips) ≡ none → victim (w .blocks .hashes) (w .blocks .sequences) (w .heads .tips) activeHead ≡ none
+      → (n : ℕ) → k ≤ n → rebuiltBelow n t arrival activeHead ≡ w
   unfolding inOrder
   no-head-rebuilt full nobody zero l = let e : k ≡ 0 = omega arith in rw e refl
   no-head-rebuilt full nobody (suc n) l = same? k (suc n)
       (λ e. rw e refl)
-      (λ ne. ap (rebuildAt arrival top n) (no-head-rebuilt full nobody n (omega arith)) ∙ no-leaf-seated w top full nobody arrival n)
+      (λ ne. ap (rebuildAt arrival activeHead n) (no-head-rebuilt full nobody n (omega arith)) ∙ no-leaf-seated w activeHead full nobody arrival n)
 
 -- ---- restart, from blocks whose counts may be anything
 
-module _ (s : State) (r : Room (headsOf s)) (b : Trunk (blocksOf s) (s .activeHead)) where
+module _ (s : State) (r : Room (itsHeads s)) (b : Trunk (itsBlocks s) (s .activeHead)) where
   at-leaf : (now i : ℕ) → VictimIfFull (rebuiltBelow i (headless (s .tables)) now (s .activeHead)) (s .activeHead)
   at-leaf now i =
       let w : Tables = rebuiltBelow i (headless (s .tables)) now (s .activeHead) in
-      full-victim (w .blocks) (w .heads) (s .activeHead) (λ k. k < i) (half-good (blocksOf s) (headsOf s) (s .activeHead) now r b i)
+      full-victim (w .blocks) (w .heads) (s .activeHead) (λ k. k < i) (half-good (itsBlocks s) (itsHeads s) (s .activeHead) now r b i)
 
   pub restart-finds : (now : ℕ) → FindsVictims s (restartCall now)
   restart-finds now w (again k i e l) = at-leaf k i
@@ -71,9 +71,9 @@ module _ (s : State) (r : Room (headsOf s)) (b : Trunk (blocksOf s) (s .activeHe
 
 module _ (s : State) (z : Sound s) where
   abbrev t : Blocks
-  t = blocksOf s
+  t = itsBlocks s
 
-  g : Good t (headsOf s) (s .activeHead) All
+  g : Good t (itsHeads s) (s .activeHead) All
   g = sound-good s z
 
   module _ (q : ℕ) (hash previous : List ℕ) (arrival x : ℕ) (e : admit s q hash previous arrival .answer ≡ slot x) where
@@ -83,17 +83,17 @@ module _ (s : State) (z : Sound s) where
     at-root : parentFound s q previous ≡ none → VictimIfFull (oneMore (inserted s x q hash previous) x) (s .activeHead)
     at-root n =
         let p = slotOrNone (parentFound s q previous) in
-        rw (insert-is t x q hash p (g .frame .counts) f) (full-victim (insert t x q hash p) (headsOf s) (s .activeHead) (λ i. i ≢ x) (root-good t (headsOf s) (s .activeHead) x q hash p g f (rw n refl)))
+        rw (insert-is t x q hash p (g .frame .counts) f) (full-victim (insert t x q hash p) (itsHeads s) (s .activeHead) (λ i. i ≢ x) (root-good t (itsHeads s) (s .activeHead) x q hash p g f (rw n refl)))
 
-    at-fork : (p : ℕ) → parentFound s q previous ≡ some p → slotOfHead (headsOf s .tips) p ≡ none → VictimIfFull (oneMore (oneMore (inserted s x q hash previous) x) p) (s .activeHead)
+    at-fork : (p : ℕ) → parentFound s q previous ≡ some p → slotOfHead (itsHeads s .tips) p ≡ none → VictimIfFull (oneMore (oneMore (inserted s x q hash previous) x) p) (s .activeHead)
     at-fork p d n =
         let k : Fits t x q hash p = rw d at f in
-        let w : Tables = oneMore (record { blocks = insert t x q hash p; heads = headsOf s }) p in
+        let w : Tables = oneMore (record { blocks = insert t x q hash p; heads = itsHeads s }) p in
         rw (d, insert-is t x q hash p (g .frame .counts) k)
-        (full-victim (w .blocks) (headsOf s) (s .activeHead) (λ i. i ≢ x) (risen t (headsOf s) (s .activeHead) x q hash (some p) previous arrival g k (parent-is t q previous p d .0) n))
+        (full-victim (w .blocks) (itsHeads s) (s .activeHead) (λ i. i ≢ x) (risen t (itsHeads s) (s .activeHead) x q hash (some p) previous arrival g k (parent-is t q previous p d .0) n))
 
   pub finds-victims : (call : Call) → FindsVictims s call
   unfolding step
   finds-victims call w (root q hash previous arrival i e n) = at-root q hash previous arrival i e n
   finds-victims call w (fork q hash previous arrival i p e n m) = at-fork q hash previous arrival i e p n m
-  finds-victims call w (again now i e l) = at-leaf s (g .frame .roomy) (frame-trunk t (headsOf s) (s .activeHead) (g .frame)) now i
+  finds-victims call w (again now i e l) = at-leaf s (g .frame .roomy) (frame-trunk t (itsHeads s) (s .activeHead) (g .frame)) now i

@@ -11,11 +11,11 @@ use Rattle.rules.specs.Calls.{State, Stepped, Call, promoteCall, keeping
 use Rattle.rules.specs.Promises.{sequence, parent, Occupied, Active, OnLine, start, down, Name, name, Accepted, slotReturned, nameGiven, Sound}
 use Rattle.rules.specs.declared.Block.{Block}
 use Rattle.rules.proofs.Splits.{split, true-not-false}
-use Rattle.rules.proofs.Kept.Table.{none-empty, Shape, hashOf, holds, onChain, holds-ne, ne-holds, holds-real}
+use Rattle.rules.proofs.Kept.Table.{none-empty, Shape, hashOf, isOccupied, isActive, occupied-ne, ne-occupied, occupied-real}
 use Rattle.rules.proofs.Kept.Slots.{Voids}
 use Rattle.rules.proofs.Kept.Steady.{Steady, steady-refl}
 use Rattle.rules.proofs.Kept.Frame.{Good, All}
-use Rattle.rules.proofs.Kept.Walked.{blocksOf, active-on, on-active}
+use Rattle.rules.proofs.Kept.Walked.{itsBlocks, active-on, on-active}
 use Rattle.rules.proofs.Kept.Border.{sound-good, good-sound, line-active}
 
 pub record Went (call : Call) (s : State) (w : Stepped) : Type 0 where
@@ -28,32 +28,32 @@ pub record Went (call : Call) (s : State) (w : Stepped) : Type 0 where
 
 -- ---- active blocks are occupied
 
-pub chain-holds : (t : Blocks) (i : ℕ) → Voids t → onChain t i ≡ true → holds t i ≡ true
+pub chain-occupied : (t : Blocks) (i : ℕ) → Voids t → isActive t i ≡ true → isOccupied t i ≡ true
 unfolding active blockAt
-chain-holds t i v a = split (holds t i)
+chain-occupied t i v a = split (isOccupied t i)
     (λ o. o)
     (λ e.
     let z : flagsAt (t .flags) i ≡ 0 = ap (λ (x : Block). x .flags) (v i e) in
-    true-not-false {b = onChain t i} a (rw z refl))
+    true-not-false {b = isActive t i} a (rw z refl))
 
-pub name-same : (s u : State) (i : ℕ) → sequence u i ≡ sequence s i → hashOf (blocksOf u) i ≡ hashOf (blocksOf s) i → name u i ≡ name s i
+pub name-same : (s u : State) (i : ℕ) → sequence u i ≡ sequence s i → hashOf (itsBlocks u) i ≡ hashOf (itsBlocks s) i → name u i ≡ name s i
 name-same s u i a b = rw (a, b) refl
 
 -- ---- a call that keeps the record; slot x may be written anew
 
-module _ (s : State) (line : (i : ℕ) → Active s i → Occupied s i × OnLine s i) (sh : Shape (blocksOf s))
-    (w : Tables) (x : ℕ) (free : holds (blocksOf s) x ≡ false) (y : Steady x (blocksOf s) (w .blocks)) where
+module _ (s : State) (line : (i : ℕ) → Active s i → Occupied s i × OnLine s i) (sh : Shape (itsBlocks s))
+    (w : Tables) (x : ℕ) (free : isOccupied (itsBlocks s) x ≡ false) (y : Steady x (itsBlocks s) (w .blocks)) where
   abbrev u : State
   u = keeping s w
 
-  was-held : (i : ℕ) → Active s i → holds (blocksOf s) i ≡ true
-  was-held i a = ne-holds (blocksOf s) i (line i a .0)
+  was-held : (i : ℕ) → Active s i → isOccupied (itsBlocks s) i ≡ true
+  was-held i a = ne-occupied (itsBlocks s) i (line i a .0)
 
   pub active-stays : (i : ℕ) → Active s i → Active u i × (name u i ≡ name s i)
   active-stays i a =
       let o = was-held i a in
       let p = y .keeps i o (active-on s i a) in
-      let ne : i ≢ x = λ q. true-not-false {b = holds (blocksOf s) x} (rw q at o) free in
+      let ne : i ≢ x = λ q. true-not-false {b = isOccupied (itsBlocks s) x} (rw q at o) free in
       let n = y .same i ne (p .0) in
       (on-active u i (p .1), name-same s u i (n .1) (n .2))
 
@@ -62,23 +62,23 @@ module _ (s : State) (line : (i : ℕ) → Active s i → Occupied s i × OnLine
   line-stays i (down j l a) =
       let b = line-active s j l in
       let o = was-held (parent s j) a in
-      let e : parent u j ≡ parent s j = y .keeps j (was-held j b) (active-on s j b) .2 (holds-real (blocksOf s) (parent s j) sh o) in
+      let e : parent u j ≡ parent s j = y .keeps j (was-held j b) (active-on s j b) .2 (occupied-real (itsBlocks s) (parent s j) sh o) in
       rw (← e) (down j (line-stays j l) (rw e (active-stays (parent s j) a .0)))
 
   pub active-was : Voids (w .blocks) → (i : ℕ) → Active u i → Active s i
   active-was v i a =
       let c = active-on u i a in
-      on-active s i (y .back i (chain-holds (w .blocks) i v c) c .1)
+      on-active s i (y .back i (chain-occupied (w .blocks) i v c) c .1)
 
   pub line-on : Voids (w .blocks) → (i : ℕ) → Active u i → Occupied u i × OnLine u i
-  line-on v i a = (holds-ne (w .blocks) i (chain-holds (w .blocks) i v (active-on u i a)), line-stays i (line i (active-was v i a) .1))
+  line-on v i a = (occupied-ne (w .blocks) i (chain-occupied (w .blocks) i v (active-on u i a)), line-stays i (line i (active-was v i a) .1))
 
-  pub top-on : (s .activeHead ≡ NONE) ⊎ Active s (s .activeHead) → (u .activeHead ≡ NONE) ⊎ Active u (u .activeHead)
-  top-on top = elim top [ inl e ↦ inl e | inr a ↦ inr (active-stays (s .activeHead) a .0) ]
+  pub active-head-on : (s .activeHead ≡ NONE) ⊎ Active s (s .activeHead) → (u .activeHead ≡ NONE) ⊎ Active u (u .activeHead)
+  active-head-on activeHead = elim activeHead [ inl e ↦ inl e | inr a ↦ inr (active-stays (s .activeHead) a .0) ]
 
-  -- another slot holds what it held
+  -- another slot isOccupied what it held
   pub other-name : (i : ℕ) → i ≢ x → Occupied u i → Occupied s i × (name u i ≡ name s i)
-  other-name i ne o = let p = y .same i ne (ne-holds (w .blocks) i o) in (holds-ne (blocksOf s) i (p .0), name-same s u i (p .1) (p .2))
+  other-name i ne o = let p = y .same i ne (ne-occupied (w .blocks) i o) in (occupied-ne (itsBlocks s) i (p .0), name-same s u i (p .1) (p .2))
 
   -- where no slot was written anew, no two blocks share a name still
   pub names-on : ((i : ℕ) → Occupied u i → i ≢ x) → ((i j : ℕ) → Occupied s i → Occupied s j → name s i ≡ name s j → i ≡ j)
@@ -90,16 +90,16 @@ module _ (s : State) (line : (i : ℕ) → Active s i → Occupied s i × OnLine
 
 -- ---- a call that neither admits nor promotes
 
-pub quiet : (call : Call) (s : State) (w : Tables) (answer : Answer) → Sound s → Good (w .blocks) (w .heads) (s .activeHead) All → Steady NONE (blocksOf s) (w .blocks)
+pub quiet : (call : Call) (s : State) (w : Tables) (answer : Answer) → Sound s → Good (w .blocks) (w .heads) (s .activeHead) All → Steady NONE (itsBlocks s) (w .blocks)
     → ((i : ℕ) → isAt (slotReturned answer) i ≡ false) → ((i : ℕ) → call ≡ promoteCall i → Accepted answer → ⊥) → Went call s (answering (keeping s w) answer)
 quiet call s w answer z g y mute never =
     let u : State = keeping s w in
     let sh = sound-good s z .frame .counts .shape in
-    let f = none-empty (blocksOf s) sh in
+    let f = none-empty (itsBlocks s) sh in
     let v = g .frame .voids in
-    let old : (i : ℕ) → Occupied u i → i ≢ NONE = λ i o. holds-real (w .blocks) i (g .frame .counts .shape) (ne-holds (w .blocks) i o) in
+    let old : (i : ℕ) → Occupied u i → i ≢ NONE = λ i o. occupied-real (w .blocks) i (g .frame .counts .shape) (ne-occupied (w .blocks) i o) in
     record {
-      sound = good-sound u g (line-on s (z .tree .line) sh w NONE f y v) (top-on s (z .tree .line) sh w NONE f y (z .tree .top)) (names-on s (z .tree .line) sh w NONE f y old (z .tree .names));
+      sound = good-sound u g (line-on s (z .tree .line) sh w NONE f y v) (active-head-on s (z .tree .line) sh w NONE f y (z .tree .activeHead)) (names-on s (z .tree .line) sh w NONE f y old (z .tree .names));
       stays = active-stays s (z .tree .line) sh w NONE f y;
       new = λ i e a. absurd (never i e a);
       only = λ i a. inl (active-was s (z .tree .line) sh w NONE f y v i a);
@@ -107,4 +107,4 @@ quiet call s w answer z g y mute never =
     }
 
 pub turned-away : (call : Call) (s : State) (number : ℕ) → Sound s → Went call s (refuse s number)
-turned-away call s number z = quiet call s (s .tables) (refused number) z (sound-good s z) (steady-refl NONE (blocksOf s)) (λ _. refl) (λ i _ a. a number refl)
+turned-away call s number z = quiet call s (s .tables) (refused number) z (sound-good s z) (steady-refl NONE (itsBlocks s)) (λ _. refl) (λ i _ a. a number refl)

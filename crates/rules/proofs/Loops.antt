@@ -1,0 +1,34 @@
+-- What a loop over the tables keeps: the lengths of all fields, and what its first turns have made.
+use mathlib.Core.Path.{_≡_, ap}
+use Prim.Native.Nat.{ℕ, _≤_}
+use lib.ListN.{length}
+use Rattle.rules.specs.Records.{Blocks, Heads, Tables}
+
+pub record SameBlocks (b was : Blocks) : Type 0 where
+  pub hashes : length (b .hashes) ≡ length (was .hashes)
+  pub parents : length (b .parents) ≡ length (was .parents)
+  pub sequences : length (b .sequences) ≡ length (was .sequences)
+  pub counts : length (b .counts) ≡ length (was .counts)
+  pub flags : length (b .flags) ≡ length (was .flags)
+
+pub record SameHeads (h was : Heads) : Type 0 where
+  pub tips : length (h .tips) ≡ length (was .tips)
+  pub tails : length (h .tails) ≡ length (was .tails)
+  pub missing : length (h .missing) ≡ length (was .missing)
+  pub requested : length (h .requested) ≡ length (was .requested)
+  pub arrivals : length (h .arrivals) ≡ length (was .arrivals)
+  pub connected : length (h .connected) ≡ length (was .connected)
+
+pub record SameLengths (t was : Tables) : Type 0 where
+  pub blocks : SameBlocks (t .blocks) (was .blocks)
+  pub heads : SameHeads (t .heads) (was .heads)
+
+-- k of m turns are done, which began with `was` and have made `made`
+pub record Turned (k m : ℕ) (t was made : Tables) : Type 0 where
+  pub within : k ≤ m
+  pub lengths : SameLengths t was
+  pub done : t ≡ made
+
+-- of tables whose blocks stay
+pub on-heads : {b : Blocks} {h g : Heads} → h ≡ g → _≡_ {A = Tables} (record { blocks = b; heads = h }) (record { blocks = b; heads = g })
+on-heads {b = b} e = ap (λ (x : Heads). record { blocks = b; heads = x }) e

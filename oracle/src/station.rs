@@ -7,11 +7,11 @@ use crate::tables::{NONE_REF, Recovery, SPARE, Tables};
 
 /// The caller's record.
 #[repr(C)]
-struct ActiveSlot {
+struct ActiveHead {
     slot: u32,
 }
 
-type Held = *mut ActiveSlot;
+type Held = *mut ActiveHead;
 
 entries! {
     station_fresh([all], Held) -> u64;
@@ -67,7 +67,7 @@ fn done(said: u32) -> Option<Answer> {
 
 /// A call that may change the record.
 fn with_record(t: &mut Tables, call: impl FnOnce(&mut Tables, Held) -> u64) -> Reply {
-    let mut record = ActiveSlot { slot: t.active };
+    let mut record = ActiveHead { slot: t.active };
     let answer = call(t, &mut record);
     t.active = record.slot;
     read(answer, done)

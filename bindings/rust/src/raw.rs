@@ -5,7 +5,7 @@
 
 /// The caller's record, which fresh and promote write.
 #[repr(C)]
-pub(crate) struct ActiveSlot {
+pub(crate) struct ActiveHead {
     pub slot: u32,
 }
 
@@ -50,7 +50,7 @@ entries! {
         hashes: &mut [u8], parents: &mut [u32], sequences: &mut [u32], counts: &mut [u8],
         flags: &mut [u8], tips: &mut [u32], tails: &mut [u32], missing: &mut [u8],
         requested: &mut [u64], arrivals: &mut [u64], connected: &mut [u8],
-        held: &mut ActiveSlot
+        held: &mut ActiveHead
     ) -> u64;
     fn station_admit(
         hashes: &mut [u8], parents: &mut [u32], sequences: &mut [u32], counts: &mut [u8],
@@ -62,7 +62,7 @@ entries! {
         hashes: &[u8], parents: &[u32], sequences: &[u32], counts: &[u8],
         flags: &mut [u8], tips: &[u32], tails: &mut [u32], missing: &mut [u8],
         requested: &mut [u64], arrivals: &[u64], connected: &mut [u8],
-        held: &mut ActiveSlot, slot: u32
+        held: &mut ActiveHead, slot: u32
     ) -> u64;
     fn station_remove(
         hashes: &mut [u8], parents: &mut [u32], sequences: &mut [u32], counts: &mut [u8],

@@ -1,4 +1,4 @@
-use crate::raw::{self, ActiveSlot};
+use crate::raw::{self, ActiveHead};
 use crate::records::{
     Anchor, Block, BlockSlot, Hash, Head, HeadSlot, NONE_REF, Request, Sequence, Status,
 };
@@ -139,7 +139,7 @@ impl Tables {
     ///
     /// [`Refusal::Shape`].
     pub fn fresh(&mut self) -> Result<(), Refusal> {
-        let mut held = ActiveSlot { slot: self.parts.active };
+        let mut held = ActiveHead { slot: self.parts.active };
         let answer = lend!(&mut self.parts, station_fresh, &mut held);
         self.parts.active = held.slot;
         accepted(answer).map(drop)
@@ -176,7 +176,7 @@ impl Tables {
     ///
     /// [`Refusal::Shape`], [`NoBlock`](Refusal::NoBlock) or [`NotNext`](Refusal::NotNext).
     pub fn promote(&mut self, slot: BlockSlot) -> Result<(), Refusal> {
-        let mut held = ActiveSlot { slot: self.parts.active };
+        let mut held = ActiveHead { slot: self.parts.active };
         let answer = lend!(&mut self.parts, station_promote, &mut held, slot.0);
         self.parts.active = held.slot;
         accepted(answer).map(drop)

@@ -22,10 +22,11 @@ fn the_entry_points() {
 
 #[test]
 fn the_record() {
-    let record = spaced(&read("crates/station/src/record.rt"));
-    assert!(record.contains("#[repr(C)] pub struct ActiveSlot { pub slot: u32, }"), "{record}");
+    let rules = spaced(&read("crates/rules/src/lib.rt"));
+    assert!(rules.contains("#[repr(C)] pub struct BlockSlot(pub u32);"));
+    assert!(rules.contains("#[repr(C)] pub struct ActiveHead { pub slot: BlockSlot, }"));
     let rust = spaced(&read("bindings/rust/src/raw.rs"));
-    assert!(rust.contains("#[repr(C)] pub(crate) struct ActiveSlot { pub slot: u32, }"));
+    assert!(rust.contains("#[repr(C)] pub(crate) struct ActiveHead { pub slot: u32, }"));
     let c = spaced(&read("include/station.h"));
     assert!(c.contains("struct station_active_head { uint32_t slot; };"));
 }
@@ -87,7 +88,7 @@ impl Entry {
 
 fn argument_in_c(name: &str, kind: &str) -> String {
     let slice = |kind: &str| kind.strip_suffix(']').map(in_c);
-    if kind == "&mut ActiveSlot" {
+    if kind == "&mut ActiveHead" {
         format!("struct station_active_head *{name}")
     } else if let Some(item) = kind.strip_prefix("&mut [").and_then(slice) {
         format!("{item} *{name}, size_t {name}_len")

@@ -1,6 +1,6 @@
 // Admission: the new block's head, then the late tails. Port of `on_block_admitted` of src/chain_heads.rs.
 ghost use mathlib.Core.Path.{_≡_};
-ghost use Rattle.rules.specs.Records.{tablesOf};
+ghost use Rattle.rules.specs.Records.{before, after};
 ghost use Rattle.rules.specs.Admission.{admitted};
 ghost use Rattle.rules.specs.Answers.{slotFound};
 use block_counts::adjust_head_ref_count;
@@ -9,6 +9,8 @@ use late_tails::resolve_pending_tails;
 use rules::BlockSlot;
 use rules::Found;
 
+// The new block counts one more and its head is placed. Then the late tails are linked and the heads that missed its hash are worked out
+// again; if the eviction freed the new block itself, both are left out.
 pub fn on_block_admitted(
     hashes: &mut [u8],
     parents: &mut [u32],
@@ -27,10 +29,9 @@ pub fn on_block_admitted(
     arrival: u64,
     active: BlockSlot,
 )
-    ensures { λ _. ⌜ tablesOf (now (hashes .exit)) (now (parents .exit)) (now (sequences .exit)) (now (counts .exit)) (now (flags .exit))
-        (now (tips .exit)) (now (tails .exit)) (now (missing .exit)) (now (requested .exit)) (now (arrivals .exit)) (now (connected .exit))
-        ≡ admitted (tablesOf (now (hashes .entry)) (now (parents .entry)) (now (sequences .entry)) (now (counts .entry)) (now (flags .entry))
-        (now (tips .entry)) (now (tails .entry)) (now (missing .entry)) (now (requested .entry)) (now (arrivals .entry)) (now (connected .entry))) (block .0) (slotFound parent) (now (previous .entry)) arrival (active .0) ⌝ }
+    ensures { λ _. ⌜ after hashes parents sequences counts flags tips tails missing requested arrivals connected
+        ≡ admitted (before hashes parents sequences counts flags tips tails missing requested arrivals connected) (block .0)
+        (slotFound parent) (now (previous .entry)) arrival (active .0) ⌝ }
 {
     adjust_head_ref_count(sequences, counts, block, 1);
     place_head(

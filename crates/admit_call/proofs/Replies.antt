@@ -9,10 +9,10 @@ use lib.Dec.{eqb}
 use lib.ListN.{length}
 use Rattle.rules.specs.Common.{isSome}
 use Rattle.rules.specs.Hashes.{hashLength, zeroHash, hashAt, sameHash}
-use Rattle.rules.specs.Records.{NONE, Blocks}
+use Rattle.rules.specs.Records.{NONE, Blocks, Tables}
 use Rattle.rules.specs.BlockTable.{find, nextFree}
 use Rattle.rules.specs.Answers.{refused, slot}
-use Rattle.rules.specs.Calls.{State, Stepped, keeping, answering, refuse, shaped, admitAt, admit}
+use Rattle.rules.specs.Calls.{State, Stepped, keeping, answering, refuse, shaped, admitAt, admit, Does}
 use Rattle.rules.proofs.Splits.{split, option?, and-true}
 use Rattle.admit_reply.proofs.OwnHash.{own-hash}
 
@@ -47,10 +47,10 @@ module _ (s : State) (sequence : ℕ) (hash previous : List ℕ) (arrival : ℕ)
       (λ e2. f 2 (rw (e1, e2))))
       (λ e1. f 1 (rw e1))
 
-  pub admit-refused : (k : ℕ) → step .answer ≡ refused k → step .after .tables ≡ s .tables
+  pub admit-refused : (k : ℕ) → refused k ≡ step .answer → Does (refused k) (s .tables) step
   admit-refused k h = admit?
-      (λ j e. rw e)
-      (λ i l m e. slot-not-refused i k (sym (ap (λ (t : Stepped). t .answer) e) ∙ h))
+      (λ j e. record { answers = h; leaves = rw e })
+      (λ i l m e. slot-not-refused i k (sym (ap (λ (t : Stepped). t .answer) e) ∙ sym h))
 
   admit-slot : (i : ℕ) → step .answer ≡ slot i
       → (length hash ≡ hashLength) × ((length previous ≡ hashLength) × (step .after .tables ≡ admitAt s i sequence hash previous arrival))
@@ -62,6 +62,8 @@ module _ (s : State) (sequence : ℕ) (hash previous : List ℕ) (arrival : ℕ)
       (l, (m, rw (e, r))))
 
   -- as the code does it, with the hashes read from their buffers
-  pub admit-places : (i : ℕ) (own before : List ℕ) → step .answer ≡ slot i → own ≡ hashAt hash 0 → before ≡ hashAt previous 0
-      → admitAt s i sequence own before arrival ≡ step .after .tables
-  admit-places i own before h o p = let d = admit-slot i h in rw (d .1 .1, o, p, own-hash hash (d .0), own-hash previous (d .1 .0))
+  pub admit-places : (i : ℕ) (own before : List ℕ) (left : Tables) → slot i ≡ step .answer → own ≡ hashAt hash 0 → before ≡ hashAt previous 0
+      → left ≡ admitAt s i sequence own before arrival → Does (slot i) left step
+  admit-places i own before left h o p t =
+      let d = admit-slot i (sym h) in
+      record { answers = h; leaves = t ∙ rw (d .1 .1, o, p, own-hash hash (d .0), own-hash previous (d .1 .0)) }

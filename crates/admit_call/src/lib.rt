@@ -1,8 +1,8 @@
 // Admit.
 ghost use mathlib.Core.Path.{_≡_};
-ghost use Rattle.rules.specs.Records.{tablesOf};
+ghost use Rattle.rules.specs.Records.{before, after};
 ghost use Rattle.rules.specs.Answers.{admittedSaid};
-ghost use Rattle.rules.specs.Calls.{stateOf, admit as admitRule};
+ghost use Rattle.rules.specs.Calls.{stateOf, admit as admitRule, Does};
 use admit_reply::reply;
 use admit_step::admit_at;
 use cells::hash_at;
@@ -10,6 +10,7 @@ use rules::Admitted;
 use rules::BlockSlot;
 use rules::Sequence;
 
+// Inserts the block, tells the heads and returns the new slot; a refusal changes nothing.
 pub fn admit(
     hashes: &mut [u8],
     parents: &mut [u32],
@@ -28,12 +29,11 @@ pub fn admit(
     previous: &[u8],
     arrival: u64,
 ) -> Admitted
-    ensures { λ r. ⌜ (admittedSaid r ≡ admitRule (stateOf (tablesOf (now (hashes .entry)) (now (parents .entry)) (now (sequences .entry)) (now (counts .entry)) (now (flags .entry))
-        (now (tips .entry)) (now (tails .entry)) (now (missing .entry)) (now (requested .entry)) (now (arrivals .entry)) (now (connected .entry))) (active .0)) (sequence .0) (now (hash .entry)) (now (previous .entry)) arrival .answer)
-        × (tablesOf (now (hashes .exit)) (now (parents .exit)) (now (sequences .exit)) (now (counts .exit)) (now (flags .exit))
-        (now (tips .exit)) (now (tails .exit)) (now (missing .exit)) (now (requested .exit)) (now (arrivals .exit)) (now (connected .exit))
-        ≡ admitRule (stateOf (tablesOf (now (hashes .entry)) (now (parents .entry)) (now (sequences .entry)) (now (counts .entry)) (now (flags .entry))
-        (now (tips .entry)) (now (tails .entry)) (now (missing .entry)) (now (requested .entry)) (now (arrivals .entry)) (now (connected .entry))) (active .0)) (sequence .0) (now (hash .entry)) (now (previous .entry)) arrival .after .tables) ⌝ }
+    ensures { λ r. ⌜ Does (admittedSaid r)
+        (after hashes parents sequences counts flags tips tails missing requested arrivals connected)
+        (admitRule
+        (stateOf (before hashes parents sequences counts flags tips tails missing requested arrivals connected) (active .0))
+        (sequence .0) (now (hash .entry)) (now (previous .entry)) arrival) ⌝ }
 {
     match reply(
         hashes,

@@ -2,7 +2,7 @@
 ghost use mathlib.Core.Path.{_≡_};
 ghost use Prim.Native.Nat.{ℕ};
 ghost use Rattle.rules.specs.Common.{isSome};
-ghost use Rattle.rules.specs.Records.{tablesOf};
+ghost use Rattle.rules.specs.Records.{before};
 ghost use Rattle.rules.specs.BlockTable.{find as findRule};
 ghost use Rattle.rules.specs.Answers.{admittedSaid};
 ghost use Rattle.rules.specs.Calls.{stateOf, admit as admitRule};
@@ -25,6 +25,7 @@ fn is_known(hashes: &[u8], sequences: &[u32], sequence: Sequence, hash: [u8; 32]
     }
 }
 
+// The lowest empty slot, which the block is to get, or the first refusal that applies.
 pub fn reply(
     hashes: &[u8],
     parents: &[u32],
@@ -41,8 +42,10 @@ pub fn reply(
     hash: &[u8],
     previous: &[u8],
 ) -> Admitted
-    ensures { λ r. ⌜ ((a arrival : ℕ) → admittedSaid r ≡ admitRule (stateOf (tablesOf (now (hashes .entry)) (now (parents .entry)) (now (sequences .entry)) (now (counts .entry)) (now (flags .entry))
-        (now (tips .entry)) (now (tails .entry)) (now (missing .entry)) (now (requested .entry)) (now (arrivals .entry)) (now (connected .entry))) a) (sequence .0) (now (hash .entry)) (now (previous .entry)) arrival .answer) ⌝ }
+    ensures { λ r. ⌜ ((a arrival : ℕ)
+        → admittedSaid r
+        ≡ admitRule (stateOf (before hashes parents sequences counts flags tips tails missing requested arrivals connected) a)
+        (sequence .0) (now (hash .entry)) (now (previous .entry)) arrival .answer) ⌝ }
 {
     if !is_shaped(
         hashes,

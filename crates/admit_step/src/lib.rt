@@ -1,6 +1,6 @@
 // An admitted block: it is inserted, then the heads are told.
 ghost use mathlib.Core.Path.{_≡_};
-ghost use Rattle.rules.specs.Records.{tablesOf};
+ghost use Rattle.rules.specs.Records.{before, after};
 ghost use Rattle.rules.specs.Answers.{slotFound};
 ghost use Rattle.rules.specs.Calls.{stateOf, slotOrNone, admitAt};
 use admission::on_block_admitted;
@@ -21,6 +21,7 @@ fn slot_or_none(found: Found) -> BlockSlot
     }
 }
 
+// Inserts the block into the slot as Stored, its count 0 and its parent from `find_parent`, tells the heads and refreshes the tails.
 pub fn admit_at(
     hashes: &mut [u8],
     parents: &mut [u32],
@@ -40,12 +41,11 @@ pub fn admit_at(
     previous: [u8; 32],
     arrival: u64,
 )
-    ensures { λ _. ⌜ tablesOf (now (hashes .exit)) (now (parents .exit)) (now (sequences .exit)) (now (counts .exit)) (now (flags .exit))
-        (now (tips .exit)) (now (tails .exit)) (now (missing .exit)) (now (requested .exit)) (now (arrivals .exit)) (now (connected .exit))
-        ≡ admitAt (stateOf (tablesOf (now (hashes .entry)) (now (parents .entry)) (now (sequences .entry)) (now (counts .entry)) (now (flags .entry))
-        (now (tips .entry)) (now (tails .entry)) (now (missing .entry)) (now (requested .entry)) (now (arrivals .entry)) (now (connected .entry))) (active .0)) (slot .0) (sequence .0) own previous arrival ⌝ }
+    ensures { λ _. ⌜ after hashes parents sequences counts flags tips tails missing requested arrivals connected
+        ≡ admitAt (stateOf (before hashes parents sequences counts flags tips tails missing requested arrivals connected) (active .0))
+        (slot .0) (sequence .0) own previous arrival ⌝ }
 {
-    let parent = find_parent(hashes, sequences, previous, sequence);
+    let parent = find_parent(hashes, sequences, sequence, previous);
     let below = slot_or_none(parent);
     let block = Block {
         hash: own,

@@ -1,8 +1,8 @@
 // The caches of heads with no arriving block: of one head, and of all.
 ghost use mathlib.Core.Path.{_≡_};
 ghost use Rattle.rules.specs.Hashes.{zeroHash};
-ghost use Rattle.rules.specs.Records.{NONE};
-ghost use Rattle.rules.specs.Caches.{cachesOf, recompute, refreshHead, recomputeUsed, recomputeAll};
+ghost use Rattle.rules.specs.Records.{NONE, cachesBefore, cachesAfter};
+ghost use Rattle.rules.specs.Caches.{recompute, refreshHead, recomputeUsed, recomputeAll};
 use caches::recompute_caches;
 use cells::slots;
 use heads::is_used;
@@ -23,9 +23,9 @@ fn recompute_alone(
     connected: &mut [u8],
     head: HeadSlot,
 )
-    ensures { λ _. ⌜ cachesOf (now (tails .exit)) (now (missing .exit)) (now (requested .exit)) (now (connected .exit))
+    ensures { λ _. ⌜ cachesAfter tails missing requested connected
         ≡ recompute (now (parents .entry)) (now (sequences .entry)) (now (flags .entry)) (now (tips .entry))
-        (cachesOf (now (tails .entry)) (now (missing .entry)) (now (requested .entry)) (now (connected .entry))) (head .0) NONE zeroHash ⌝ }
+        (cachesBefore tails missing requested connected) (head .0) NONE zeroHash ⌝ }
 {
     let zeros = [0u8; 32];
     recompute_caches(
@@ -43,6 +43,7 @@ fn recompute_alone(
     );
 }
 
+// Works out the caches of the lowest head with this tip again; where no head has it, nothing changes.
 pub fn refresh_head(
     parents: &[u32],
     sequences: &[u32],
@@ -54,9 +55,9 @@ pub fn refresh_head(
     connected: &mut [u8],
     tip: BlockSlot,
 )
-    ensures { λ _. ⌜ cachesOf (now (tails .exit)) (now (missing .exit)) (now (requested .exit)) (now (connected .exit))
+    ensures { λ _. ⌜ cachesAfter tails missing requested connected
         ≡ refreshHead (now (parents .entry)) (now (sequences .entry)) (now (flags .entry)) (now (tips .entry))
-        (cachesOf (now (tails .entry)) (now (missing .entry)) (now (requested .entry)) (now (connected .entry))) (tip .0) ⌝ }
+        (cachesBefore tails missing requested connected) (tip .0) ⌝ }
 {
     match slot_of_head(tips, tip) {
         FoundHead::At(head) => recompute_alone(
@@ -85,9 +86,9 @@ fn recompute_used(
     connected: &mut [u8],
     head: HeadSlot,
 )
-    ensures { λ _. ⌜ cachesOf (now (tails .exit)) (now (missing .exit)) (now (requested .exit)) (now (connected .exit))
+    ensures { λ _. ⌜ cachesAfter tails missing requested connected
         ≡ recomputeUsed (now (parents .entry)) (now (sequences .entry)) (now (flags .entry)) (now (tips .entry)) (head .0)
-        (cachesOf (now (tails .entry)) (now (missing .entry)) (now (requested .entry)) (now (connected .entry))) ⌝ }
+        (cachesBefore tails missing requested connected) ⌝ }
 {
     if is_used(tips, head) {
         recompute_alone(
@@ -104,6 +105,7 @@ fn recompute_used(
     }
 }
 
+// Works out the caches of every head in use again, in slot order; an empty head keeps its fields.
 pub fn recompute_all_caches(
     parents: &[u32],
     sequences: &[u32],
@@ -114,9 +116,9 @@ pub fn recompute_all_caches(
     requested: &mut [u64],
     connected: &mut [u8],
 )
-    ensures { λ _. ⌜ cachesOf (now (tails .exit)) (now (missing .exit)) (now (requested .exit)) (now (connected .exit))
+    ensures { λ _. ⌜ cachesAfter tails missing requested connected
         ≡ recomputeAll (now (parents .entry)) (now (sequences .entry)) (now (flags .entry)) (now (tips .entry))
-        (cachesOf (now (tails .entry)) (now (missing .entry)) (now (requested .entry)) (now (connected .entry))) ⌝ }
+        (cachesBefore tails missing requested connected) ⌝ }
 {
     let m = slots(tips);
     let mut k: u32 = 0;

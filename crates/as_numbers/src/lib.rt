@@ -16,6 +16,7 @@ use rules::StatusFound;
 // What stands for a count or a status that is not there.
 const NOTHING: u32 = 4294967295;
 
+// The number of a refusal, from 1 for the shape to 9 for a subtree that holds an active block.
 pub fn refusal_number(why: Refusal) -> u32
     ensures { λ r. ⌜ r ≡ refusalNumber why ⌝ }
 {
@@ -32,12 +33,14 @@ pub fn refusal_number(why: Refusal) -> u32
     }
 }
 
+// 1 for yes, 0 for no.
 pub fn said(answer: bool) -> u32
     ensures { λ r. ⌜ r ≡ yes answer ⌝ }
 {
     if answer { 1 } else { 0 }
 }
 
+// The block slot, or NONE_REF for none.
 pub fn found(f: Found) -> u32
     ensures { λ r. ⌜ r ≡ orNone (slotFound f) ⌝ }
 {
@@ -47,6 +50,7 @@ pub fn found(f: Found) -> u32
     }
 }
 
+// The head slot, or NONE_REF for none.
 pub fn found_head(f: FoundHead) -> u32
     ensures { λ r. ⌜ r ≡ orNone (headFound f) ⌝ }
 {
@@ -56,6 +60,7 @@ pub fn found_head(f: FoundHead) -> u32
     }
 }
 
+// The count, or 4,294,967,295 for none.
 pub fn counted(c: Counted) -> u32
     ensures { λ r. ⌜ r ≡ orNone (countGot c) ⌝ }
 {
@@ -75,6 +80,7 @@ fn status_number(s: BlockStatus) -> u32
     }
 }
 
+// 0 for Stored, 1 for Connected, 2 for Active, or 4,294,967,295 for none.
 pub fn status_found(f: StatusFound) -> u32
     ensures { λ r. ⌜ r ≡ orNone (statusGot f) ⌝ }
 {
@@ -84,6 +90,7 @@ pub fn status_found(f: StatusFound) -> u32
     }
 }
 
+// The slot of a tail; that of a connection with 2^32 added.
 pub fn anchored(l: Located) -> u64
     ensures { λ r. ⌜ r ≡ anchorNumber (anchorLocated l) ⌝ }
 {

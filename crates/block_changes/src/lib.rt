@@ -1,6 +1,6 @@
 // A block inserted, deleted, or given its parent.
 ghost use mathlib.Core.Path.{_≡_};
-ghost use Rattle.rules.specs.Records.{blocksOf, occupied, putBlock};
+ghost use Rattle.rules.specs.Records.{occupied, putBlock, blocksBefore, blocksAfter};
 ghost use Rattle.rules.specs.BlockTable.{delete as deleteRule, insertion, insert as insertRule, insertAt, resolveParent, setParent};
 ghost use Rattle.rules.specs.Answers.{insertionMade};
 use blocks::is_occupied;
@@ -24,8 +24,8 @@ fn put_block(
     slot: BlockSlot,
     block: Block,
 )
-    ensures { λ _. ⌜ blocksOf (now (hashes .exit)) (now (parents .exit)) (now (sequences .exit)) (now (counts .exit)) (now (flags .exit))
-        ≡ putBlock (blocksOf (now (hashes .entry)) (now (parents .entry)) (now (sequences .entry)) (now (counts .entry)) (now (flags .entry))) (slot .0) block ⌝ }
+    ensures { λ _. ⌜ blocksAfter hashes parents sequences counts flags
+        ≡ putBlock (blocksBefore hashes parents sequences counts flags) (slot .0) block ⌝ }
 {
     let hash = block.hash;
     put_hash(hashes, slot.0, hash);
@@ -35,6 +35,7 @@ fn put_block(
     put_byte(flags, slot.0, block.flags);
 }
 
+// Writes the block into the slot, be it occupied or empty; beyond n nothing changes.
 pub fn insert_at(
     hashes: &mut [u8],
     parents: &mut [u32],
@@ -44,14 +45,15 @@ pub fn insert_at(
     slot: BlockSlot,
     block: Block,
 )
-    ensures { λ _. ⌜ blocksOf (now (hashes .exit)) (now (parents .exit)) (now (sequences .exit)) (now (counts .exit)) (now (flags .exit))
-        ≡ insertAt (blocksOf (now (hashes .entry)) (now (parents .entry)) (now (sequences .entry)) (now (counts .entry)) (now (flags .entry))) (slot .0) block ⌝ }
+    ensures { λ _. ⌜ blocksAfter hashes parents sequences counts flags
+        ≡ insertAt (blocksBefore hashes parents sequences counts flags) (slot .0) block ⌝ }
 {
     if slot.0 < slots(sequences) {
         put_block(hashes, parents, sequences, counts, flags, slot, block);
     }
 }
 
+// Writes the block into the lowest empty slot, which it gives; with the reserved sequence or in a full table nothing changes.
 pub fn insert(
     hashes: &mut [u8],
     parents: &mut [u32],
@@ -61,8 +63,7 @@ pub fn insert(
     block: Block,
 ) -> Inserted
     ensures { λ r. ⌜ (insertionMade r ≡ insertion (now (sequences .entry)) block)
-        × (blocksOf (now (hashes .exit)) (now (parents .exit)) (now (sequences .exit)) (now (counts .exit)) (now (flags .exit))
-        ≡ insertRule (blocksOf (now (hashes .entry)) (now (parents .entry)) (now (sequences .entry)) (now (counts .entry)) (now (flags .entry))) block) ⌝ }
+        × (blocksAfter hashes parents sequences counts flags ≡ insertRule (blocksBefore hashes parents sequences counts flags) block) ⌝ }
 {
     if block.sequence.0 == Sequence::NONE_REF.0 {
         return Inserted::ReservedSequence;
@@ -74,6 +75,7 @@ pub fn insert(
     Inserted::At(slot)
 }
 
+// Makes an occupied slot the empty record and tells whether it was occupied; an empty slot keeps its fields.
 pub fn delete(
     hashes: &mut [u8],
     parents: &mut [u32],
@@ -83,8 +85,8 @@ pub fn delete(
     slot: BlockSlot,
 ) -> bool
     ensures { λ r. ⌜ (r ≡ occupied (now (sequences .entry)) (slot .0))
-        × (blocksOf (now (hashes .exit)) (now (parents .exit)) (now (sequences .exit)) (now (counts .exit)) (now (flags .exit))
-        ≡ deleteRule (blocksOf (now (hashes .entry)) (now (parents .entry)) (now (sequences .entry)) (now (counts .entry)) (now (flags .entry))) (slot .0)) ⌝ }
+        × (blocksAfter hashes parents sequences counts flags
+        ≡ deleteRule (blocksBefore hashes parents sequences counts flags) (slot .0)) ⌝ }
 {
     if !is_occupied(sequences, slot) {
         return false;
@@ -101,12 +103,14 @@ pub fn delete(
     true
 }
 
+// Sets the slot's parent; an empty slot is written too, and out of range nothing changes.
 pub fn resolve_parent_ref(parents: &mut [u32], slot: BlockSlot, parent: BlockSlot)
     ensures { λ _. ⌜ now (parents .exit) ≡ resolveParent (now (parents .entry)) (slot .0) (parent .0) ⌝ }
 {
     put_word(parents, slot.0, parent.0);
 }
 
+// Sets the slot's parent and tells whether the slot is occupied; an empty slot keeps its parent.
 pub fn set_parent_ref(
     parents: &mut [u32],
     sequences: &[u32],

@@ -22,6 +22,7 @@ fn adjusted_count(count: u8, change: i8) -> u8
     wide as u8
 }
 
+// Adds a signed change to the count, which stops at 0 and 255, and gives the new count; on an empty slot it gives and changes nothing.
 pub fn adjust_head_ref_count(
     sequences: &[u32],
     counts: &mut [u8],
@@ -39,6 +40,7 @@ pub fn adjust_head_ref_count(
     Counted::Count(next)
 }
 
+// Sets the slot's count and tells whether the slot is occupied; an empty slot keeps its count.
 pub fn set_head_ref_count(sequences: &[u32], counts: &mut [u8], slot: BlockSlot, count: u8) -> bool
     ensures { λ r. ⌜ (r ≡ occupied (now (sequences .entry)) (slot .0))
         × (now (counts .exit) ≡ setOccupied (now (sequences .entry)) (now (counts .entry)) (slot .0) count) ⌝ }

@@ -8,6 +8,7 @@ use cells::put_byte;
 use rules::BlockSlot;
 use rules::BlockStatus;
 
+// The byte with bit 0 set or cleared, its other bits as they were.
 pub fn with_bit0(byte: u8, value: bool) -> u8
     ensures { λ r. ⌜ r ≡ withBit0 byte value ⌝ }
 {
@@ -17,6 +18,7 @@ pub fn with_bit0(byte: u8, value: bool) -> u8
     byte / 2 * 2
 }
 
+// Sets or clears bit 0 of the slot's flags and tells whether the slot is occupied; an empty slot keeps its flags.
 pub fn set_on_active_chain(
     sequences: &[u32],
     flags: &mut [u8],
@@ -45,6 +47,7 @@ fn with_status(bits: u8, status: BlockStatus) -> u8
     }
 }
 
+// Sets bits 1 and 2 of the slot's flags and tells whether the slot is occupied; an empty slot keeps its flags.
 pub fn set_status(sequences: &[u32], flags: &mut [u8], slot: BlockSlot, status: BlockStatus) -> bool
     ensures { λ r. ⌜ (r ≡ occupied (now (sequences .entry)) (slot .0))
         × (now (flags .exit) ≡ setStatus (now (sequences .entry)) (now (flags .entry)) (slot .0) (statusNumber status)) ⌝ }

@@ -1,6 +1,6 @@
 // What a block holds: the record, its count and its status.
 ghost use mathlib.Core.Path.{_≡_};
-ghost use Rattle.rules.specs.Records.{blocksOf, statusNumber, statusOf};
+ghost use Rattle.rules.specs.Records.{statusNumber, statusOf, blocksBefore};
 ghost use Rattle.rules.specs.BlockTable.{get as getRule, headRefCount, statusAt};
 ghost use Rattle.rules.specs.Answers.{gotBlock, countGot, statusGot};
 use blocks::is_occupied;
@@ -15,6 +15,7 @@ use rules::Got;
 use rules::Sequence;
 use rules::StatusFound;
 
+// The block in a slot; nothing for an empty or out-of-range slot.
 pub fn get(
     hashes: &[u8],
     parents: &[u32],
@@ -23,7 +24,7 @@ pub fn get(
     flags: &[u8],
     slot: BlockSlot,
 ) -> Got
-    ensures { λ r. ⌜ r ≡ gotBlock (getRule (blocksOf (now (hashes .entry)) (now (parents .entry)) (now (sequences .entry)) (now (counts .entry)) (now (flags .entry))) (slot .0)) ⌝ }
+    ensures { λ r. ⌜ r ≡ gotBlock (getRule (blocksBefore hashes parents sequences counts flags) (slot .0)) ⌝ }
 {
     if !is_occupied(sequences, slot) {
         return Got {
@@ -46,6 +47,7 @@ pub fn get(
     Got { there: true, block }
 }
 
+// The count of the block in a slot; nothing for an empty or out-of-range slot.
 pub fn head_ref_count(sequences: &[u32], counts: &[u8], slot: BlockSlot) -> Counted
     ensures { λ r. ⌜ countGot r ≡ headRefCount (now (sequences .entry)) (now (counts .entry)) (slot .0) ⌝ }
 {
@@ -68,6 +70,7 @@ fn status_bits(bits: u8) -> BlockStatus
     BlockStatus::Stored
 }
 
+// The status of the block in a slot, where 3 reads as Stored; nothing for an empty or out-of-range slot.
 pub fn status(sequences: &[u32], flags: &[u8], slot: BlockSlot) -> StatusFound
     ensures { λ r. ⌜ statusGot r ≡ statusAt (now (sequences .entry)) (now (flags .entry)) (slot .0) ⌝ }
 {

@@ -13,18 +13,21 @@ use rules::BlockSlot;
 use rules::Found;
 use rules::Sequence;
 
+// Whether the slot holds a block: its sequence is not NONE_REF. A slot out of range is empty.
 pub fn is_occupied(sequences: &[u32], slot: BlockSlot) -> bool
     ensures { λ r. ⌜ r ≡ occupied (now (sequences .entry)) (slot .0) ⌝ }
 {
     word_at(sequences, slot.0) != Sequence::NONE_REF.0
 }
 
+// Whether bit 0 of the slot's flags is set, be the slot occupied or not; out of range it is not.
 pub fn is_on_active_chain(flags: &[u8], slot: BlockSlot) -> bool
     ensures { λ r. ⌜ r ≡ active (now (flags .entry)) (slot .0) ⌝ }
 {
     byte_at(flags, slot.0) % 2 == 1
 }
 
+// The lowest occupied slot with this sequence and hash; none for the reserved sequence, which no block has.
 pub fn find(hashes: &[u8], sequences: &[u32], sequence: Sequence, hash: [u8; 32]) -> Found
     ensures { λ r. ⌜ slotFound r ≡ findRule (now (hashes .entry)) (now (sequences .entry)) (sequence .0) hash ⌝ }
 {
@@ -43,6 +46,7 @@ pub fn find(hashes: &[u8], sequences: &[u32], sequence: Sequence, hash: [u8; 32]
     Found::Nothing
 }
 
+// The lowest empty slot, or none where all are occupied.
 pub fn next_free_index(sequences: &[u32]) -> Found
     ensures { λ r. ⌜ slotFound r ≡ nextFree (now (sequences .entry)) ⌝ }
 {
@@ -53,13 +57,14 @@ pub fn next_free_index(sequences: &[u32]) -> Found
     Found::Nothing
 }
 
+// The lowest slot with the sequence one lower and the previous hash; sequence 0 has no parent.
 pub fn find_parent(
     hashes: &[u8],
     sequences: &[u32],
-    previous: [u8; 32],
     sequence: Sequence,
+    previous: [u8; 32],
 ) -> Found
-    ensures { λ r. ⌜ slotFound r ≡ findParent (now (hashes .entry)) (now (sequences .entry)) previous (sequence .0) ⌝ }
+    ensures { λ r. ⌜ slotFound r ≡ findParent (now (hashes .entry)) (now (sequences .entry)) (sequence .0) previous ⌝ }
 {
     let child = sequence.0;
     if child == 0 {
@@ -68,6 +73,7 @@ pub fn find_parent(
     find(hashes, sequences, Sequence(child - 1), previous)
 }
 
+// Whether the parent walk from the slot meets an active block in n tries; an empty slot or a block without parent ends it.
 pub fn walks_to_active_chain(
     parents: &[u32],
     sequences: &[u32],

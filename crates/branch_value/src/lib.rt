@@ -3,6 +3,7 @@ ghost use mathlib.Core.Path.{_≡_};
 ghost use Rattle.rules.specs.Rank.{outranks as outranksRule};
 use cells::hash_less;
 
+// What a branch is ranked by: its value, its length and its hash.
 pub struct Rank {
     pub value: u64,
     pub len: u16,
@@ -10,8 +11,11 @@ pub struct Rank {
 }
 
 impl Rank {
+    // Whether this branch has the higher value, then the greater length, then the lower hash; equal ranks do not outrank each other.
     pub fn outranks(self, other: Rank) -> bool
-        ensures { λ r. ⌜ r ≡ outranksRule (record { value = self .value; length = self .len; hash = self .hash }) (record { value = other .value; length = other .len; hash = other .hash }) ⌝ }
+        ensures { λ r. ⌜ r
+            ≡ outranksRule (record { value = self .value; length = self .len; hash = self .hash })
+            (record { value = other .value; length = other .len; hash = other .hash }) ⌝ }
     {
         if self.value != other.value {
             return other.value < self.value;

@@ -1,6 +1,7 @@
 // The caches of a head: flag, anchor, missing hash and request time, from the walk of its tip.
 ghost use mathlib.Core.Path.{_≡_};
-ghost use Rattle.rules.specs.Caches.{cachesOf, connectionKept, tailKept, recompute};
+ghost use Rattle.rules.specs.Records.{cachesBefore, cachesAfter};
+ghost use Rattle.rules.specs.Caches.{connectionKept, tailKept, recompute};
 use anchor::locate_anchor;
 use block_flags::with_bit0;
 use cells::byte_at;
@@ -22,8 +23,8 @@ fn keep_connection(
     head: HeadSlot,
     at: BlockSlot,
 )
-    ensures { λ _. ⌜ cachesOf (now (tails .exit)) (now (missing .exit)) (now (requested .exit)) (now (connected .exit))
-        ≡ connectionKept (cachesOf (now (tails .entry)) (now (missing .entry)) (now (requested .entry)) (now (connected .entry))) (head .0) (at .0) ⌝ }
+    ensures { λ _. ⌜ cachesAfter tails missing requested connected
+        ≡ connectionKept (cachesBefore tails missing requested connected) (head .0) (at .0) ⌝ }
 {
     let bits = with_bit0(byte_at(connected, head.0), true);
     put_word(tails, head.0, at.0);
@@ -43,8 +44,9 @@ fn keep_tail(
     arriving: BlockSlot,
     previous: &[u8],
 )
-    ensures { λ _. ⌜ cachesOf (now (tails .exit)) (now (missing .exit)) (now (requested .entry)) (now (connected .exit))
-        ≡ tailKept (now (tips .entry)) (cachesOf (now (tails .entry)) (now (missing .entry)) (now (requested .entry)) (now (connected .entry))) (head .0) (at .0) (arriving .0) (now (previous .entry)) ⌝ }
+    ensures { λ _. ⌜ cachesAfter tails missing requested connected
+        ≡ tailKept (now (tips .entry)) (cachesBefore tails missing requested connected) (head .0) (at .0) (arriving .0)
+        (now (previous .entry)) ⌝ }
 {
     let bits = with_bit0(byte_at(connected, head.0), false);
     put_word(tails, head.0, at.0);
@@ -61,6 +63,8 @@ fn keep_tail(
     );
 }
 
+// Locates the tip's anchor anew and keeps it. A connection sets the flag and zeroes request time and missing hash. A tail clears the
+// flag; the missing hash is the previous one if the tail is the arriving block, else that of the lowest stored head with this tail.
 pub fn recompute_caches(
     parents: &[u32],
     sequences: &[u32],
@@ -74,9 +78,9 @@ pub fn recompute_caches(
     arriving: BlockSlot,
     previous: &[u8],
 )
-    ensures { λ _. ⌜ cachesOf (now (tails .exit)) (now (missing .exit)) (now (requested .exit)) (now (connected .exit))
+    ensures { λ _. ⌜ cachesAfter tails missing requested connected
         ≡ recompute (now (parents .entry)) (now (sequences .entry)) (now (flags .entry)) (now (tips .entry))
-        (cachesOf (now (tails .entry)) (now (missing .entry)) (now (requested .entry)) (now (connected .entry))) (head .0) (arriving .0) (now (previous .entry)) ⌝ }
+        (cachesBefore tails missing requested connected) (head .0) (arriving .0) (now (previous .entry)) ⌝ }
 {
     let tip = BlockSlot(word_at(tips, head.0));
     match locate_anchor(parents, sequences, flags, tip) {

@@ -1,11 +1,14 @@
 -- The numbers and lists that a call's answer is passed on as.
+use mathlib.Core.Path.{_≡_}
 use mathlib.Core.List.{List}
 use mathlib.Core.Option.{Option, none, some}
 use Prim.Native.Nat.{ℕ, _*_}
 use lib.Dec.{eqb}
 use lib.ListN.{set}
 use Rattle.rules.specs.Common.{if_then_else_}
-use Rattle.rules.specs.Records.{NONE}
+use Rattle.rules.specs.Kinds.{BlockSlot}
+use Rattle.rules.specs.Records.{NONE, Tables, Lent}
+use Rattle.rules.specs.Calls.{Stepped}
 use Rattle.rules.specs.Hashes.{putHash}
 use Rattle.rules.specs.Answers.{Answer, refused, done, slot, freed, request, noneDue, dueAt, neverDue}
 
@@ -56,3 +59,28 @@ timeTo neverDue times = times
 -- whether a retry span is given, and the span
 unfoldable pub spanFrom : ℕ → ℕ → Option ℕ
 spanFrom given span = if eqb given 0 then none else some span
+
+-- ---- what a contract says of a call whose answer is passed on as a number
+
+pub record Gives (number : ℕ) (left : Tables) (rule : Stepped) : Type 0 where
+  pub answers : number ≡ answerNumber (rule .answer)
+  pub leaves : left ≡ rule .after .tables
+
+-- and the record, of a call that may set it
+pub record GivesAndSets (number : ℕ) (held : BlockSlot) (left : Tables) (rule : Stepped) : Type 0 where
+  pub answers : number ≡ answerNumber (rule .answer)
+  pub records : held ≡ rule .after .activeHead
+  pub leaves : left ≡ rule .after .tables
+
+-- and what a request asks for, in two lent lists
+pub record Asks (number : ℕ) (claimed wanted : Lent) (left : Tables) (rule : Stepped) : Type 0 where
+  pub answers : number ≡ answerNumber (rule .answer)
+  pub claims : claimed .exit .now ≡ claimedTo (rule .answer) (claimed .entry .now)
+  pub wants : wanted .exit .now ≡ wantedTo (rule .answer) (wanted .entry .now)
+  pub leaves : left ≡ rule .after .tables
+
+-- and the time of a deadline, in a lent list
+pub record Waits (number : ℕ) (time : Lent) (left : Tables) (rule : Stepped) : Type 0 where
+  pub answers : number ≡ answerNumber (rule .answer)
+  pub waits : time .exit .now ≡ timeTo (rule .answer) (time .entry .now)
+  pub leaves : left ≡ rule .after .tables

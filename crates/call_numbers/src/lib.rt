@@ -22,6 +22,7 @@ fn refusal(why: Refusal) -> u64
     refusal_number(why) as u64 * 4294967296
 }
 
+// 0 for done, or the refusal in the upper half.
 pub fn outcome_number(outcome: Outcome) -> u64
     ensures { λ r. ⌜ r ≡ answerNumber (outcomeSaid outcome) ⌝ }
 {
@@ -31,6 +32,7 @@ pub fn outcome_number(outcome: Outcome) -> u64
     }
 }
 
+// The new block's slot, or the refusal in the upper half.
 pub fn admitted_number(admitted: Admitted) -> u64
     ensures { λ r. ⌜ r ≡ answerNumber (admittedSaid admitted) ⌝ }
 {
@@ -40,6 +42,7 @@ pub fn admitted_number(admitted: Admitted) -> u64
     }
 }
 
+// How many blocks were freed, or the refusal in the upper half.
 pub fn removed_number(removed: Removed) -> u64
     ensures { λ r. ⌜ r ≡ answerNumber (removedSaid removed) ⌝ }
 {
@@ -66,6 +69,7 @@ pub fn timed_number(timed: Timed, hash: [u8; 32], claimed: &mut [u32], wanted: &
     }
 }
 
+// 1, with the time written to the first place of the list, or 0 for never, or the refusal in the upper half.
 pub fn deadline_number(deadline: DeadlineAnswer, time: &mut [u64]) -> u64
     ensures { λ r. ⌜ (r ≡ answerNumber (deadlineSaid deadline))
         × (now (time .exit) ≡ timeTo (deadlineSaid deadline) (now (time .entry))) ⌝ }
@@ -80,6 +84,7 @@ pub fn deadline_number(deadline: DeadlineAnswer, time: &mut [u64]) -> u64
     }
 }
 
+// The retry span, unset where `given` is 0; a span of 0 ticks is a span.
 pub fn span_from(given: u32, span: u64) -> Span
     ensures { λ r. ⌜ spanGiven r ≡ spanFrom given span ⌝ }
 {

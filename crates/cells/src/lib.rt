@@ -23,6 +23,7 @@ pub fn slots(words: &[u32]) -> u32
     NONE_REF
 }
 
+// The word in a place; NONE_REF past the end.
 pub fn word_at(words: &[u32], at: u32) -> u32
     ensures { λ r. ⌜ r ≡ getD (now (words .entry)) at NONE ⌝ }
 {
@@ -34,6 +35,7 @@ pub fn word_at(words: &[u32], at: u32) -> u32
     }
 }
 
+// Sets the word in a place; past the end nothing changes.
 pub fn put_word(words: &mut [u32], at: u32, value: u32)
     ensures { λ _. ⌜ now (words .exit) ≡ set (now (words .entry)) at value ⌝ }
 {
@@ -43,6 +45,7 @@ pub fn put_word(words: &mut [u32], at: u32, value: u32)
     }
 }
 
+// The byte in a place; 0 past the end.
 pub fn byte_at(bytes: &[u8], at: u32) -> u8
     ensures { λ r. ⌜ r ≡ getD (now (bytes .entry)) at 0 ⌝ }
 {
@@ -55,6 +58,7 @@ fn byte_from(bytes: &[u8], k: usize) -> u8
     if k < bytes.len() { bytes[k] } else { 0 }
 }
 
+// Sets the byte in a place; past the end nothing changes.
 pub fn put_byte(bytes: &mut [u8], at: u32, value: u8)
     ensures { λ _. ⌜ now (bytes .exit) ≡ set (now (bytes .entry)) at value ⌝ }
 {
@@ -64,6 +68,7 @@ pub fn put_byte(bytes: &mut [u8], at: u32, value: u8)
     }
 }
 
+// The time in a place; 0 past the end.
 pub fn time_at(times: &[u64], at: u32) -> u64
     ensures { λ r. ⌜ r ≡ getD (now (times .entry)) at 0 ⌝ }
 {
@@ -71,6 +76,7 @@ pub fn time_at(times: &[u64], at: u32) -> u64
     if k < times.len() { times[k] } else { 0 }
 }
 
+// Sets the time in a place; past the end nothing changes.
 pub fn put_time(times: &mut [u64], at: u32, value: u64)
     ensures { λ _. ⌜ now (times .exit) ≡ set (now (times .entry)) at value ⌝ }
 {
@@ -100,7 +106,8 @@ pub fn next_at(words: &[u32], from: u32, value: u32) -> u32
 
 // Eight slots at once: none holds the value.
 fn eight_differ(words: &[u32], from: u32, value: u32) -> bool
-    ensures { λ r. ⌜ (r ≡ true → (from + 8 ≤ slotsOf (now (words .entry))) × ((j : ℕ) → j < 8 → getD (now (words .entry)) (from + j) NONE ≢ value)) ⌝ }
+    ensures { λ r. ⌜ (r ≡ true → (from + 8 ≤ slotsOf (now (words .entry)))
+        × ((j : ℕ) → j < 8 → getD (now (words .entry)) (from + j) NONE ≢ value)) ⌝ }
 {
     let first = from as usize;
     if first + 8 > slots(words) as usize {
@@ -149,12 +156,14 @@ fn padded_hash(bytes: &[u8], at: u32) -> [u8; 32]
     hash
 }
 
+// The first byte of the hash in a place; 0 past the end.
 pub fn first_byte(bytes: &[u8], at: u32) -> u8
     ensures { λ r. ⌜ r ≡ firstByte (hashAt (now (bytes .entry)) at) ⌝ }
 {
     byte_from(bytes, at as usize * 32)
 }
 
+// Sets the hash in a place of a buffer of hashes; bytes past the end are dropped.
 pub fn put_hash(bytes: &mut [u8], at: u32, hash: [u8; 32])
     ensures { λ _. ⌜ now (bytes .exit) ≡ putHash (now (bytes .entry)) at hash ⌝ }
 {
@@ -174,6 +183,7 @@ pub fn put_hash(bytes: &mut [u8], at: u32, hash: [u8; 32])
     }
 }
 
+// Whether two hashes are the same in all 32 bytes.
 pub fn same_hash(a: [u8; 32], b: [u8; 32]) -> bool
     ensures { λ r. ⌜ r ≡ sameHash a b ⌝ }
 {
@@ -188,6 +198,7 @@ pub fn same_hash(a: [u8; 32], b: [u8; 32]) -> bool
     same
 }
 
+// Whether the hash in a place is this one; bytes past the end read as 0.
 pub fn same_hash_at(bytes: &[u8], at: u32, hash: [u8; 32]) -> bool
     ensures { λ r. ⌜ r ≡ sameHash (hashAt (now (bytes .entry)) at) hash ⌝ }
 {
@@ -206,6 +217,7 @@ pub fn same_hash_at(bytes: &[u8], at: u32, hash: [u8; 32]) -> bool
     same
 }
 
+// Whether the first hash is the lower: the first byte that differs decides, and of equal hashes neither is.
 pub fn hash_less(a: [u8; 32], b: [u8; 32]) -> bool
     ensures { λ r. ⌜ r ≡ hashLess a b ⌝ }
 {

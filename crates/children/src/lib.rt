@@ -16,6 +16,7 @@ fn is_child(parents: &[u32], sequences: &[u32], slot: BlockSlot, child: BlockSlo
     word_at(parents, child.0) == slot.0
 }
 
+// Whether an occupied block has this slot as its parent, be the slot itself occupied or not.
 pub fn has_child(parents: &[u32], sequences: &[u32], slot: BlockSlot) -> bool
     ensures { λ r. ⌜ r ≡ not (childless (now (parents .entry)) (now (sequences .entry)) (slot .0)) ⌝ }
 {
@@ -30,6 +31,7 @@ pub fn has_child(parents: &[u32], sequences: &[u32], slot: BlockSlot) -> bool
     false
 }
 
+// Whether no occupied block has this slot as its parent; the slot itself may be empty.
 pub fn is_childless(parents: &[u32], sequences: &[u32], slot: BlockSlot) -> bool
     ensures { λ r. ⌜ r ≡ childless (now (parents .entry)) (now (sequences .entry)) (slot .0) ⌝ }
 {

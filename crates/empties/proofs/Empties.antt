@@ -2,8 +2,7 @@
 use mathlib.Core.Path.{_≡_}
 use mathlib.Core.Bool.{true}
 use lib.ListN.{length}
-use Rattle.rules.specs.Records.{Tables}
-use Rattle.rules.specs.Rebuild.{emptyBlocks, emptyHeads, blocksEmptied, headsEmptied}
+use Rattle.rules.specs.Records.{Tables, emptyBlocks, emptyHeads, blocksEmptied, headsEmptied}
 use Rattle.rules.specs.Calls.{shaped}
 use Rattle.rules.proofs.Kept.Shaped.{shaped-shape}
 

@@ -1,11 +1,11 @@
 // Tables emptied: each cell holds what an empty record has there.
 ghost use mathlib.Core.Path.{_≡_};
 ghost use lib.ListN.{length, replicate};
-ghost use Rattle.rules.specs.Records.{blocksOf, headsOf};
-ghost use Rattle.rules.specs.Rebuild.{blocksEmptied, headsEmptied};
+ghost use Rattle.rules.specs.Records.{blocksEmptied, headsEmptied, blocksBefore, blocksAfter, headsBefore, headsAfter};
 use rules::BlockSlot;
 use rules::Sequence;
 
+// Every byte becomes the value.
 pub fn fill_bytes(bytes: &mut [u8], value: u8)
     ensures { λ _. ⌜ now (bytes .exit) ≡ replicate (length (now (bytes .entry))) value ⌝ }
 {
@@ -36,6 +36,7 @@ fn fill_times(times: &mut [u64], value: u64)
     }
 }
 
+// Every head becomes the empty record, whatever the lengths of the buffers.
 pub fn empty_heads(
     tips: &mut [u32],
     tails: &mut [u32],
@@ -44,8 +45,8 @@ pub fn empty_heads(
     arrivals: &mut [u64],
     connected: &mut [u8],
 )
-    ensures { λ _. ⌜ headsOf (now (tips .exit)) (now (tails .exit)) (now (missing .exit)) (now (requested .exit)) (now (arrivals .exit)) (now (connected .exit))
-        ≡ headsEmptied (headsOf (now (tips .entry)) (now (tails .entry)) (now (missing .entry)) (now (requested .entry)) (now (arrivals .entry)) (now (connected .entry))) ⌝ }
+    ensures { λ _. ⌜ headsAfter tips tails missing requested arrivals connected
+        ≡ headsEmptied (headsBefore tips tails missing requested arrivals connected) ⌝ }
 {
     fill_words(tips, BlockSlot::NONE_REF.0);
     fill_words(tails, BlockSlot::NONE_REF.0);
@@ -55,6 +56,7 @@ pub fn empty_heads(
     fill_bytes(connected, 0);
 }
 
+// Every block slot becomes the empty record, whatever the lengths of the buffers.
 pub fn empty_blocks(
     hashes: &mut [u8],
     parents: &mut [u32],
@@ -62,8 +64,8 @@ pub fn empty_blocks(
     counts: &mut [u8],
     flags: &mut [u8],
 )
-    ensures { λ _. ⌜ blocksOf (now (hashes .exit)) (now (parents .exit)) (now (sequences .exit)) (now (counts .exit)) (now (flags .exit))
-        ≡ blocksEmptied (blocksOf (now (hashes .entry)) (now (parents .entry)) (now (sequences .entry)) (now (counts .entry)) (now (flags .entry))) ⌝ }
+    ensures { λ _. ⌜ blocksAfter hashes parents sequences counts flags
+        ≡ blocksEmptied (blocksBefore hashes parents sequences counts flags) ⌝ }
 {
     fill_bytes(hashes, 0);
     fill_words(parents, BlockSlot::NONE_REF.0);

@@ -9,8 +9,8 @@ use borrow.Author.Tests.{eq-eqb, ne-eqb}
 use lib.Dec.{eqb}
 use lib.IntN.{negsuc}
 use Rattle.rules.specs.Common.{if_then_else_}
-use Rattle.rules.specs.Records.{Blocks, parentAt, countAt, occupied, active}
-use Rattle.rules.specs.BlockTable.{adjusted, adjustedAt, adjustCounts, withCounts, adjust, delete}
+use Rattle.rules.specs.Records.{Blocks, parentAt, countAt, occupied, active, withCounts}
+use Rattle.rules.specs.BlockTable.{adjusted, adjustedAt, adjustCounts, adjust, delete}
 use Rattle.rules.specs.Eviction.{evictFrom}
 use Rattle.rules.proofs.Splits.{split, some-not-none}
 use Rattle.eviction.specs.Visit.{visited, goesOn}

@@ -4,7 +4,7 @@ ghost use mathlib.Core.Bool.{true, not, _&&_, _||_};
 ghost use lib.Dec.{eqb, ltb};
 ghost use Rattle.rules.specs.Common.{if_then_else_};
 ghost use Rattle.rules.specs.Hashes.{hashAt, hashLess};
-ghost use Rattle.rules.specs.Records.{NONE, blocksOf, tablesOf, slotsOf, tipAt};
+ghost use Rattle.rules.specs.Records.{NONE, slotsOf, tipAt, blocksBefore, blocksAfter, before, after};
 ghost use Rattle.rules.specs.Answers.{slotFound, headFound};
 ghost use Rattle.rules.specs.Eviction.{victim, evictFrom, evict as evictRule, evictOne};
 ghost use Rattle.eviction.specs.Visit.{visited, goesOn};
@@ -45,7 +45,10 @@ fn goes_first(
     tip: BlockSlot,
     sequence: Sequence,
 ) -> bool
-    ensures { λ r. ⌜ r ≡ (if any then ltb (sequence .0) (lowest .0) || (eqb (sequence .0) (lowest .0) && hashLess (hashAt (now (hashes .entry)) (tip .0)) (hashAt (now (hashes .entry)) (tipAt (now (tips .entry)) (best .0)))) else true) ⌝ }
+    ensures { λ r. ⌜ r
+        ≡ (if any then ltb (sequence .0) (lowest .0) ||
+        (eqb (sequence .0) (lowest .0) && hashLess (hashAt (now (hashes .entry)) (tip .0))
+        (hashAt (now (hashes .entry)) (tipAt (now (tips .entry)) (best .0)))) else true) ⌝ }
 {
     if !any {
         return true;
@@ -59,6 +62,7 @@ fn goes_first(
     hash_before(hashes, tip, BlockSlot(word_at(tips, best.0)))
 }
 
+// The victim: lowest sequence, then lowest hash, then lowest slot, never the active head nor a head with an empty tip; or none.
 pub fn select_eviction_victim(
     hashes: &[u8],
     sequences: &[u32],
@@ -107,9 +111,8 @@ fn visit(
     flags: &mut [u8],
     slot: BlockSlot,
 ) -> Found
-    ensures { λ r. ⌜ (slotFound r ≡ goesOn (blocksOf (now (hashes .entry)) (now (parents .entry)) (now (sequences .entry)) (now (counts .entry)) (now (flags .entry))) (slot .0))
-        × (blocksOf (now (hashes .exit)) (now (parents .exit)) (now (sequences .exit)) (now (counts .exit)) (now (flags .exit))
-        ≡ visited (blocksOf (now (hashes .entry)) (now (parents .entry)) (now (sequences .entry)) (now (counts .entry)) (now (flags .entry))) (slot .0)) ⌝ }
+    ensures { λ r. ⌜ (slotFound r ≡ goesOn (blocksBefore hashes parents sequences counts flags) (slot .0))
+        × (blocksAfter hashes parents sequences counts flags ≡ visited (blocksBefore hashes parents sequences counts flags) (slot .0)) ⌝ }
 {
     let parent = BlockSlot(word_at(parents, slot.0));
     let kept = is_on_active_chain(flags, slot);
@@ -137,8 +140,8 @@ fn evict_from(
     flags: &mut [u8],
     tip: BlockSlot,
 )
-    ensures { λ _. ⌜ blocksOf (now (hashes .exit)) (now (parents .exit)) (now (sequences .exit)) (now (counts .exit)) (now (flags .exit))
-        ≡ evictFrom (slotsOf (now (sequences .entry))) (blocksOf (now (hashes .entry)) (now (parents .entry)) (now (sequences .entry)) (now (counts .entry)) (now (flags .entry))) (tip .0) ⌝ }
+    ensures { λ _. ⌜ blocksAfter hashes parents sequences counts flags
+        ≡ evictFrom (slotsOf (now (sequences .entry))) (blocksBefore hashes parents sequences counts flags) (tip .0) ⌝ }
 {
     let n = slots(sequences);
     let mut current = tip.0;
@@ -178,10 +181,8 @@ fn evict(
     connected: &mut [u8],
     head: HeadSlot,
 )
-    ensures { λ _. ⌜ tablesOf (now (hashes .exit)) (now (parents .exit)) (now (sequences .exit)) (now (counts .exit)) (now (flags .exit))
-        (now (tips .exit)) (now (tails .exit)) (now (missing .exit)) (now (requested .exit)) (now (arrivals .exit)) (now (connected .exit))
-        ≡ evictRule (tablesOf (now (hashes .entry)) (now (parents .entry)) (now (sequences .entry)) (now (counts .entry)) (now (flags .entry))
-        (now (tips .entry)) (now (tails .entry)) (now (missing .entry)) (now (requested .entry)) (now (arrivals .entry)) (now (connected .entry))) (head .0) ⌝ }
+    ensures { λ _. ⌜ after hashes parents sequences counts flags tips tails missing requested arrivals connected
+        ≡ evictRule (before hashes parents sequences counts flags tips tails missing requested arrivals connected) (head .0) ⌝ }
 {
     let tip = BlockSlot(word_at(tips, head.0));
     evict_from(hashes, parents, sequences, counts, flags, tip);
@@ -197,6 +198,8 @@ fn evict(
     );
 }
 
+// Empties the victim. The walk from its tip lowers each count by 1 and frees a block at 0, going on to its parent; an active block is
+// kept and stops it. Without a victim nothing changes.
 pub fn evict_one(
     hashes: &mut [u8],
     parents: &mut [u32],
@@ -211,10 +214,8 @@ pub fn evict_one(
     connected: &mut [u8],
     active: BlockSlot,
 )
-    ensures { λ _. ⌜ tablesOf (now (hashes .exit)) (now (parents .exit)) (now (sequences .exit)) (now (counts .exit)) (now (flags .exit))
-        (now (tips .exit)) (now (tails .exit)) (now (missing .exit)) (now (requested .exit)) (now (arrivals .exit)) (now (connected .exit))
-        ≡ evictOne (tablesOf (now (hashes .entry)) (now (parents .entry)) (now (sequences .entry)) (now (counts .entry)) (now (flags .entry))
-        (now (tips .entry)) (now (tails .entry)) (now (missing .entry)) (now (requested .entry)) (now (arrivals .entry)) (now (connected .entry))) (active .0) ⌝ }
+    ensures { λ _. ⌜ after hashes parents sequences counts flags tips tails missing requested arrivals connected
+        ≡ evictOne (before hashes parents sequences counts flags tips tails missing requested arrivals connected) (active .0) ⌝ }
 {
     match select_eviction_victim(hashes, sequences, tips, active) {
         FoundHead::Nothing => {}

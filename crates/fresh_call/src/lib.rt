@@ -1,16 +1,17 @@
 // Fresh: the covered core, on the record's number.
 ghost use mathlib.Core.Path.{_≡_};
-ghost use Rattle.rules.specs.Records.{tablesOf};
+ghost use Rattle.rules.specs.Records.{before, after};
 ghost use Rattle.rules.specs.Answers.{outcomeSaid};
-ghost use Rattle.rules.specs.Calls.{stateOf, fresh as freshRule};
+ghost use Rattle.rules.specs.Calls.{stateOf, fresh as freshRule, Sets};
 use empties::empty_blocks;
 use empties::empty_heads;
-use recorded::Recorded;
 use rules::BlockSlot;
 use rules::Outcome;
+use rules::Recorded;
 use rules::Refusal;
 use shape::is_shaped;
 
+// Empties all slots and all heads and gives NONE_REF for the record; a refusal changes nothing.
 pub fn fresh_at(
     hashes: &mut [u8],
     parents: &mut [u32],
@@ -25,14 +26,10 @@ pub fn fresh_at(
     connected: &mut [u8],
     active: BlockSlot,
 ) -> Recorded
-    ensures { λ r. ⌜ (outcomeSaid (r .outcome) ≡ freshRule (stateOf (tablesOf (now (hashes .entry)) (now (parents .entry)) (now (sequences .entry)) (now (counts .entry)) (now (flags .entry))
-        (now (tips .entry)) (now (tails .entry)) (now (missing .entry)) (now (requested .entry)) (now (arrivals .entry)) (now (connected .entry))) (active .0)) .answer)
-        × ((r .active .0 ≡ freshRule (stateOf (tablesOf (now (hashes .entry)) (now (parents .entry)) (now (sequences .entry)) (now (counts .entry)) (now (flags .entry))
-        (now (tips .entry)) (now (tails .entry)) (now (missing .entry)) (now (requested .entry)) (now (arrivals .entry)) (now (connected .entry))) (active .0)) .after .activeHead)
-        × (tablesOf (now (hashes .exit)) (now (parents .exit)) (now (sequences .exit)) (now (counts .exit)) (now (flags .exit))
-        (now (tips .exit)) (now (tails .exit)) (now (missing .exit)) (now (requested .exit)) (now (arrivals .exit)) (now (connected .exit))
-        ≡ freshRule (stateOf (tablesOf (now (hashes .entry)) (now (parents .entry)) (now (sequences .entry)) (now (counts .entry)) (now (flags .entry))
-        (now (tips .entry)) (now (tails .entry)) (now (missing .entry)) (now (requested .entry)) (now (arrivals .entry)) (now (connected .entry))) (active .0)) .after .tables)) ⌝ }
+    ensures { λ r. ⌜ Sets (outcomeSaid (r .outcome)) (r .active .0)
+        (after hashes parents sequences counts flags tips tails missing requested arrivals connected)
+        (freshRule
+        (stateOf (before hashes parents sequences counts flags tips tails missing requested arrivals connected) (active .0))) ⌝ }
 {
     if !is_shaped(
         hashes,

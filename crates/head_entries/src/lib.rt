@@ -14,6 +14,7 @@ use rules::Found;
 use rules::HeadSlot;
 use rules::NextHead;
 
+// The lowest head in use from this slot on, with its tip and its anchor, or none.
 pub fn next_occupied_head(tips: &[u32], tails: &[u32], from: HeadSlot) -> NextHead
     ensures { λ r. ⌜ headInUse r ≡ nextHead (now (tips .entry)) (now (tails .entry)) (from .0) ⌝ }
 {
@@ -30,6 +31,7 @@ pub fn next_occupied_head(tips: &[u32], tails: &[u32], from: HeadSlot) -> NextHe
     NextHead::Nothing
 }
 
+// The tip of a connected head; nothing for a stored or an empty one.
 pub fn connected_head_at(tips: &[u32], connected: &[u8], head: HeadSlot) -> Found
     ensures { λ r. ⌜ slotFound r ≡ connectedHeadAt (now (tips .entry)) (now (connected .entry)) (head .0) ⌝ }
 {
@@ -42,6 +44,7 @@ pub fn connected_head_at(tips: &[u32], connected: &[u8], head: HeadSlot) -> Foun
     Found::At(BlockSlot(word_at(tips, head.0)))
 }
 
+// The tail of a stored head; nothing for a connected or an empty one.
 pub fn stored_head_tail(tips: &[u32], tails: &[u32], connected: &[u8], head: HeadSlot) -> Found
     ensures { λ r. ⌜ slotFound r ≡ storedHeadTail (now (tips .entry)) (now (tails .entry)) (now (connected .entry)) (head .0) ⌝ }
 {
@@ -51,6 +54,7 @@ pub fn stored_head_tail(tips: &[u32], tails: &[u32], connected: &[u8], head: Hea
     Found::At(BlockSlot(word_at(tails, head.0)))
 }
 
+// Sets the missing hash of a head in use; an empty head keeps its own.
 pub fn set_missing_parent_hash(tips: &[u32], missing: &mut [u8], head: HeadSlot, hash: [u8; 32])
     ensures { λ _. ⌜ now (missing .exit) ≡ setMissing (now (tips .entry)) (now (missing .entry)) (head .0) hash ⌝ }
 {

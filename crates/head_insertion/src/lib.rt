@@ -1,7 +1,7 @@
 // A head inserted: in the lowest empty slot, and a full head table evicts first.
 ghost use mathlib.Core.Path.{_≡_};
-ghost use Rattle.rules.specs.Records.{headsOf, tablesOf, putHead};
-ghost use Rattle.rules.specs.Caches.{caches, withCaches, recompute};
+ghost use Rattle.rules.specs.Records.{putHead, caches, withCaches, headsBefore, headsAfter, before, after};
+ghost use Rattle.rules.specs.Caches.{recompute};
 ghost use Rattle.rules.specs.Admission.{newHead, seatHead, makeRoom, insertHead};
 use caches::recompute_caches;
 use eviction::evict_one;
@@ -29,10 +29,12 @@ fn seat_at(
     arriving: BlockSlot,
     previous: &[u8],
 )
-    ensures { λ _. ⌜ headsOf (now (tips .exit)) (now (tails .exit)) (now (missing .exit)) (now (requested .exit)) (now (arrivals .exit)) (now (connected .exit))
-        ≡ withCaches (putHead (headsOf (now (tips .entry)) (now (tails .entry)) (now (missing .entry)) (now (requested .entry)) (now (arrivals .entry)) (now (connected .entry))) (slot .0) (newHead (tip .0) arrival))
-        (recompute (now (parents .entry)) (now (sequences .entry)) (now (flags .entry)) (putHead (headsOf (now (tips .entry)) (now (tails .entry)) (now (missing .entry)) (now (requested .entry)) (now (arrivals .entry)) (now (connected .entry))) (slot .0) (newHead (tip .0) arrival) .tips)
-        (caches (putHead (headsOf (now (tips .entry)) (now (tails .entry)) (now (missing .entry)) (now (requested .entry)) (now (arrivals .entry)) (now (connected .entry))) (slot .0) (newHead (tip .0) arrival))) (slot .0) (arriving .0) (now (previous .entry))) ⌝ }
+    ensures { λ _. ⌜ headsAfter tips tails missing requested arrivals connected
+        ≡ withCaches (putHead (headsBefore tips tails missing requested arrivals connected) (slot .0) (newHead (tip .0) arrival))
+        (recompute (now (parents .entry)) (now (sequences .entry)) (now (flags .entry))
+        (putHead (headsBefore tips tails missing requested arrivals connected) (slot .0) (newHead (tip .0) arrival) .tips)
+        (caches (putHead (headsBefore tips tails missing requested arrivals connected) (slot .0) (newHead (tip .0) arrival)))
+        (slot .0) (arriving .0) (now (previous .entry))) ⌝ }
 {
     let head = Head {
         tip,
@@ -85,10 +87,9 @@ fn seat_head(
     arriving: BlockSlot,
     previous: &[u8],
 )
-    ensures { λ _. ⌜ tablesOf (now (hashes .entry)) (now (parents .entry)) (now (sequences .entry)) (now (counts .entry)) (now (flags .entry))
-        (now (tips .exit)) (now (tails .exit)) (now (missing .exit)) (now (requested .exit)) (now (arrivals .exit)) (now (connected .exit))
-        ≡ seatHead (tablesOf (now (hashes .entry)) (now (parents .entry)) (now (sequences .entry)) (now (counts .entry)) (now (flags .entry))
-        (now (tips .entry)) (now (tails .entry)) (now (missing .entry)) (now (requested .entry)) (now (arrivals .entry)) (now (connected .entry))) (tip .0) arrival (arriving .0) (now (previous .entry)) ⌝ }
+    ensures { λ _. ⌜ after hashes parents sequences counts flags tips tails missing requested arrivals connected
+        ≡ seatHead (before hashes parents sequences counts flags tips tails missing requested arrivals connected) (tip .0) arrival
+        (arriving .0) (now (previous .entry)) ⌝ }
 {
     match first_empty(tips) {
         FoundHead::Nothing => {}
@@ -126,10 +127,8 @@ fn make_room(
     connected: &mut [u8],
     active: BlockSlot,
 )
-    ensures { λ _. ⌜ tablesOf (now (hashes .exit)) (now (parents .exit)) (now (sequences .exit)) (now (counts .exit)) (now (flags .exit))
-        (now (tips .exit)) (now (tails .exit)) (now (missing .exit)) (now (requested .exit)) (now (arrivals .exit)) (now (connected .exit))
-        ≡ makeRoom (tablesOf (now (hashes .entry)) (now (parents .entry)) (now (sequences .entry)) (now (counts .entry)) (now (flags .entry))
-        (now (tips .entry)) (now (tails .entry)) (now (missing .entry)) (now (requested .entry)) (now (arrivals .entry)) (now (connected .entry))) (active .0) ⌝ }
+    ensures { λ _. ⌜ after hashes parents sequences counts flags tips tails missing requested arrivals connected
+        ≡ makeRoom (before hashes parents sequences counts flags tips tails missing requested arrivals connected) (active .0) ⌝ }
 {
     match first_empty(tips) {
         FoundHead::Nothing => evict_one(
@@ -150,6 +149,8 @@ fn make_room(
     }
 }
 
+// A head with this tip, request time 0 and the given arrival time takes the lowest empty slot, and its caches are worked out. A full
+// head table evicts first; without a victim the tip gets no head.
 pub fn insert_head(
     hashes: &mut [u8],
     parents: &mut [u32],
@@ -168,10 +169,9 @@ pub fn insert_head(
     previous: &[u8],
     active: BlockSlot,
 )
-    ensures { λ _. ⌜ tablesOf (now (hashes .exit)) (now (parents .exit)) (now (sequences .exit)) (now (counts .exit)) (now (flags .exit))
-        (now (tips .exit)) (now (tails .exit)) (now (missing .exit)) (now (requested .exit)) (now (arrivals .exit)) (now (connected .exit))
-        ≡ insertHead (tablesOf (now (hashes .entry)) (now (parents .entry)) (now (sequences .entry)) (now (counts .entry)) (now (flags .entry))
-        (now (tips .entry)) (now (tails .entry)) (now (missing .entry)) (now (requested .entry)) (now (arrivals .entry)) (now (connected .entry))) (tip .0) arrival (arriving .0) (now (previous .entry)) (active .0) ⌝ }
+    ensures { λ _. ⌜ after hashes parents sequences counts flags tips tails missing requested arrivals connected
+        ≡ insertHead (before hashes parents sequences counts flags tips tails missing requested arrivals connected) (tip .0) arrival
+        (arriving .0) (now (previous .entry)) (active .0) ⌝ }
 {
     make_room(
         hashes,

@@ -1,7 +1,7 @@
 // The head of a new block: its parent's, moved up, or one more.
 ghost use mathlib.Core.Path.{_≡_};
 ghost use mathlib.Core.Option.{some};
-ghost use Rattle.rules.specs.Records.{tablesOf};
+ghost use Rattle.rules.specs.Records.{before, after};
 ghost use Rattle.rules.specs.Admission.{moveUp, fork as forkRule, placeHead};
 ghost use Rattle.rules.specs.Answers.{slotFound};
 use block_counts::adjust_head_ref_count;
@@ -33,10 +33,9 @@ fn move_up(
     previous: &[u8],
     arrival: u64,
 )
-    ensures { λ _. ⌜ tablesOf (now (hashes .entry)) (now (parents .entry)) (now (sequences .entry)) (now (counts .entry)) (now (flags .entry))
-        (now (tips .exit)) (now (tails .exit)) (now (missing .exit)) (now (requested .exit)) (now (arrivals .exit)) (now (connected .exit))
-        ≡ moveUp (tablesOf (now (hashes .entry)) (now (parents .entry)) (now (sequences .entry)) (now (counts .entry)) (now (flags .entry))
-        (now (tips .entry)) (now (tails .entry)) (now (missing .entry)) (now (requested .entry)) (now (arrivals .entry)) (now (connected .entry))) (slot .0) (block .0) (now (previous .entry)) arrival ⌝ }
+    ensures { λ _. ⌜ after hashes parents sequences counts flags tips tails missing requested arrivals connected
+        ≡ moveUp (before hashes parents sequences counts flags tips tails missing requested arrivals connected) (slot .0) (block .0)
+        (now (previous .entry)) arrival ⌝ }
 {
     put_word(tips, slot.0, block.0);
     put_time(arrivals, slot.0, arrival);
@@ -74,10 +73,9 @@ fn fork(
     arrival: u64,
     active: BlockSlot,
 )
-    ensures { λ _. ⌜ tablesOf (now (hashes .exit)) (now (parents .exit)) (now (sequences .exit)) (now (counts .exit)) (now (flags .exit))
-        (now (tips .exit)) (now (tails .exit)) (now (missing .exit)) (now (requested .exit)) (now (arrivals .exit)) (now (connected .exit))
-        ≡ forkRule (tablesOf (now (hashes .entry)) (now (parents .entry)) (now (sequences .entry)) (now (counts .entry)) (now (flags .entry))
-        (now (tips .entry)) (now (tails .entry)) (now (missing .entry)) (now (requested .entry)) (now (arrivals .entry)) (now (connected .entry))) (block .0) (parent .0) (now (previous .entry)) arrival (active .0) ⌝ }
+    ensures { λ _. ⌜ after hashes parents sequences counts flags tips tails missing requested arrivals connected
+        ≡ forkRule (before hashes parents sequences counts flags tips tails missing requested arrivals connected) (block .0) (parent .0)
+        (now (previous .entry)) arrival (active .0) ⌝ }
 {
     adjust_head_ref_count(sequences, counts, parent, 1);
     insert_head(
@@ -118,10 +116,9 @@ fn place_above(
     arrival: u64,
     active: BlockSlot,
 )
-    ensures { λ _. ⌜ tablesOf (now (hashes .exit)) (now (parents .exit)) (now (sequences .exit)) (now (counts .exit)) (now (flags .exit))
-        (now (tips .exit)) (now (tails .exit)) (now (missing .exit)) (now (requested .exit)) (now (arrivals .exit)) (now (connected .exit))
-        ≡ placeHead (tablesOf (now (hashes .entry)) (now (parents .entry)) (now (sequences .entry)) (now (counts .entry)) (now (flags .entry))
-        (now (tips .entry)) (now (tails .entry)) (now (missing .entry)) (now (requested .entry)) (now (arrivals .entry)) (now (connected .entry))) (block .0) (some (parent .0)) (now (previous .entry)) arrival (active .0) ⌝ }
+    ensures { λ _. ⌜ after hashes parents sequences counts flags tips tails missing requested arrivals connected
+        ≡ placeHead (before hashes parents sequences counts flags tips tails missing requested arrivals connected) (block .0)
+        (some (parent .0)) (now (previous .entry)) arrival (active .0) ⌝ }
 {
     match slot_of_head(tips, parent) {
         FoundHead::At(slot) => move_up(
@@ -162,6 +159,8 @@ fn place_above(
     }
 }
 
+// The parent's head, the lowest of them, moves up to the new block. A parent that is no head counts one more and a head is inserted.
+// Without a parent a head is inserted.
 pub fn place_head(
     hashes: &mut [u8],
     parents: &mut [u32],
@@ -180,10 +179,9 @@ pub fn place_head(
     arrival: u64,
     active: BlockSlot,
 )
-    ensures { λ _. ⌜ tablesOf (now (hashes .exit)) (now (parents .exit)) (now (sequences .exit)) (now (counts .exit)) (now (flags .exit))
-        (now (tips .exit)) (now (tails .exit)) (now (missing .exit)) (now (requested .exit)) (now (arrivals .exit)) (now (connected .exit))
-        ≡ placeHead (tablesOf (now (hashes .entry)) (now (parents .entry)) (now (sequences .entry)) (now (counts .entry)) (now (flags .entry))
-        (now (tips .entry)) (now (tails .entry)) (now (missing .entry)) (now (requested .entry)) (now (arrivals .entry)) (now (connected .entry))) (block .0) (slotFound parent) (now (previous .entry)) arrival (active .0) ⌝ }
+    ensures { λ _. ⌜ after hashes parents sequences counts flags tips tails missing requested arrivals connected
+        ≡ placeHead (before hashes parents sequences counts flags tips tails missing requested arrivals connected) (block .0)
+        (slotFound parent) (now (previous .entry)) arrival (active .0) ⌝ }
 {
     match parent {
         Found::Nothing => insert_head(

@@ -4,7 +4,7 @@ ghost use mathlib.Core.Path.{_≡_};
 ghost use Prim.Native.Nat.{ℕ};
 ghost use lib.Dec.{eqb};
 ghost use Rattle.rules.specs.Common.{lowest};
-ghost use Rattle.rules.specs.Records.{headsOf, slotsOf, tipAt, used, isConnected, stored, headCount, hasStoredHead, putHead};
+ghost use Rattle.rules.specs.Records.{slotsOf, tipAt, used, isConnected, stored, headCount, hasStoredHead, putHead, headsBefore, headsAfter};
 ghost use Rattle.rules.specs.Caches.{slotOfHead};
 ghost use Rattle.rules.specs.Admission.{firstEmpty};
 ghost use Rattle.rules.specs.Answers.{headFound};
@@ -24,18 +24,21 @@ use rules::FoundHead;
 use rules::Head;
 use rules::HeadSlot;
 
+// Whether the head is in use: its tip is not NONE_REF. A head out of range is empty.
 pub fn is_used(tips: &[u32], head: HeadSlot) -> bool
     ensures { λ r. ⌜ r ≡ used (now (tips .entry)) (head .0) ⌝ }
 {
     word_at(tips, head.0) != BlockSlot::NONE_REF.0
 }
 
+// Whether the connected flag, bit 0 of its byte, is set, be the head in use or not; out of range it is not.
 pub fn is_connected(connected: &[u8], head: HeadSlot) -> bool
     ensures { λ r. ⌜ r ≡ isConnected (now (connected .entry)) (head .0) ⌝ }
 {
     byte_at(connected, head.0) % 2 == 1
 }
 
+// Whether the head is in use and not connected.
 pub fn is_stored(tips: &[u32], connected: &[u8], head: HeadSlot) -> bool
     ensures { λ r. ⌜ r ≡ stored (now (tips .entry)) (now (connected .entry)) (head .0) ⌝ }
 {
@@ -45,6 +48,7 @@ pub fn is_stored(tips: &[u32], connected: &[u8], head: HeadSlot) -> bool
     !is_connected(connected, head)
 }
 
+// The lowest head slot with this tip; none for NONE_REF, which is no tip.
 pub fn slot_of_head(tips: &[u32], tip: BlockSlot) -> FoundHead
     ensures { λ r. ⌜ headFound r ≡ slotOfHead (now (tips .entry)) (tip .0) ⌝ }
 {
@@ -54,6 +58,7 @@ pub fn slot_of_head(tips: &[u32], tip: BlockSlot) -> FoundHead
     head_with(tips, tip)
 }
 
+// The lowest empty head slot, or none where all are in use.
 pub fn first_empty(tips: &[u32]) -> FoundHead
     ensures { λ r. ⌜ headFound r ≡ firstEmpty (now (tips .entry)) ⌝ }
 {
@@ -70,6 +75,7 @@ fn head_with(tips: &[u32], tip: BlockSlot) -> FoundHead
     FoundHead::Nothing
 }
 
+// How many heads are in use.
 pub fn count(tips: &[u32]) -> u32
     ensures { λ r. ⌜ r ≡ headCount (now (tips .entry)) ⌝ }
 {
@@ -85,6 +91,7 @@ pub fn count(tips: &[u32]) -> u32
     heads
 }
 
+// Whether some head is stored.
 pub fn has_stored_head(tips: &[u32], connected: &[u8]) -> bool
     ensures { λ r. ⌜ r ≡ hasStoredHead (now (tips .entry)) (now (connected .entry)) ⌝ }
 {
@@ -99,6 +106,7 @@ pub fn has_stored_head(tips: &[u32], connected: &[u8]) -> bool
     false
 }
 
+// Writes the head into the slot, be it in use or empty; what falls past the end of a buffer is dropped.
 pub fn put_head(
     tips: &mut [u32],
     tails: &mut [u32],
@@ -109,8 +117,8 @@ pub fn put_head(
     slot: HeadSlot,
     head: Head,
 )
-    ensures { λ _. ⌜ headsOf (now (tips .exit)) (now (tails .exit)) (now (missing .exit)) (now (requested .exit)) (now (arrivals .exit)) (now (connected .exit))
-        ≡ putHead (headsOf (now (tips .entry)) (now (tails .entry)) (now (missing .entry)) (now (requested .entry)) (now (arrivals .entry)) (now (connected .entry))) (slot .0) head ⌝ }
+    ensures { λ _. ⌜ headsAfter tips tails missing requested arrivals connected
+        ≡ putHead (headsBefore tips tails missing requested arrivals connected) (slot .0) head ⌝ }
 {
     let hash = head.missing;
     put_word(tips, slot.0, head.tip.0);
@@ -121,12 +129,14 @@ pub fn put_head(
     put_byte(connected, slot.0, head.connected);
 }
 
+// Whether the first block has the lower hash; the first byte that differs decides.
 pub fn hash_before(hashes: &[u8], a: BlockSlot, b: BlockSlot) -> bool
     ensures { λ r. ⌜ r ≡ hashBefore (now (hashes .entry)) (a .0) (b .0) ⌝ }
 {
     hash_less(hash_at(hashes, a.0), hash_at(hashes, b.0))
 }
 
+// Whether the first block has the lower sequence or, the sequences being equal, the lower hash.
 pub fn block_before(hashes: &[u8], sequences: &[u32], a: BlockSlot, b: BlockSlot) -> bool
     ensures { λ r. ⌜ r ≡ blockBefore (now (hashes .entry)) (now (sequences .entry)) (a .0) (b .0) ⌝ }
 {

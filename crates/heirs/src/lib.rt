@@ -28,6 +28,7 @@ fn is_listed(deleted: &[u32], slot: BlockSlot) -> bool
     false
 }
 
+// Whether the head is in use and its tip is one of the listed blocks.
 pub fn is_head_freed(deleted: &[u32], tips: &[u32], head: HeadSlot) -> bool
     ensures { λ r. ⌜ r ≡ headFreed (now (deleted .entry)) (now (tips .entry)) (head .0) ⌝ }
 {
@@ -80,7 +81,8 @@ pub fn heir(
     deleted: &[u32],
     reattach: BlockSlot,
 ) -> FoundHead
-    ensures { λ r. ⌜ headFound r ≡ heirRule (now (parents .entry)) (now (sequences .entry)) (now (tips .entry)) (now (deleted .entry)) (reattach .0) ⌝ }
+    ensures { λ r. ⌜ headFound r
+        ≡ heirRule (now (parents .entry)) (now (sequences .entry)) (now (tips .entry)) (now (deleted .entry)) (reattach .0) ⌝ }
 {
     if takes_over(parents, sequences, tips, reattach) {
         return first_freed(deleted, tips);

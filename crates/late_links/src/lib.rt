@@ -4,9 +4,9 @@ ghost use Prim.Native.Nat.{suc};
 ghost use lib.Dec.{eqb};
 ghost use lib.IntN.{pos};
 ghost use Rattle.rules.specs.Hashes.{hashAt};
-ghost use Rattle.rules.specs.Records.{headsOf, tablesOf};
+ghost use Rattle.rules.specs.Records.{before, after};
 ghost use Rattle.rules.specs.BlockTable.{adjustCounts};
-ghost use Rattle.rules.specs.Admission.{misses as missesRule, mayMiss, late, joined as joinedRule, link as linkRule, linkLate, linkTails};
+ghost use Rattle.rules.specs.Admission.{misses as missesRule, late, joined as joinedRule, link as linkRule, linkLate, linkTails};
 use block_changes::resolve_parent_ref;
 use block_counts::adjust_head_ref_count;
 use blocks::is_occupied;
@@ -24,64 +24,41 @@ use rules::Head;
 use rules::HeadSlot;
 use rules::Sequence;
 
+// The first byte alone rules most heads out.
 pub fn misses(
     tips: &[u32],
-    tails: &[u32],
     missing: &[u8],
-    requested: &[u64],
-    arrivals: &[u64],
     connected: &[u8],
     hash: [u8; 32],
     head: HeadSlot,
 ) -> bool
-    ensures { λ r. ⌜ r ≡ missesRule (headsOf (now (tips .entry)) (now (tails .entry)) (now (missing .entry)) (now (requested .entry)) (now (arrivals .entry)) (now (connected .entry))) hash (head .0) ⌝ }
+    ensures { λ r. ⌜ r ≡ missesRule (now (tips .entry)) (now (missing .entry)) (now (connected .entry)) hash (head .0) ⌝ }
 {
+    if first_byte(missing, head.0) != hash[0] {
+        return false;
+    }
     if !is_stored(tips, connected, head) {
         return false;
     }
     same_hash_at(missing, head.0, hash)
 }
 
-// Cheap: a head that fails this test does not miss any hash with this first byte.
-pub fn may_miss(tips: &[u32], missing: &[u8], connected: &[u8], first: u8, head: HeadSlot) -> bool
-    ensures { λ r. ⌜ r ≡ mayMiss (now (tips .entry)) (now (missing .entry)) (now (connected .entry)) first (head .0) ⌝ }
-{
-    if first_byte(missing, head.0) != first {
-        return false;
-    }
-    is_stored(tips, connected, head)
-}
-
 fn is_late(
-    hashes: &[u8],
     parents: &[u32],
     sequences: &[u32],
-    counts: &[u8],
-    flags: &[u8],
     tips: &[u32],
     tails: &[u32],
     missing: &[u8],
-    requested: &[u64],
-    arrivals: &[u64],
     connected: &[u8],
     block: BlockSlot,
     hash: [u8; 32],
     sequence: Sequence,
     head: HeadSlot,
 ) -> bool
-    ensures { λ r. ⌜ r ≡ late (tablesOf (now (hashes .entry)) (now (parents .entry)) (now (sequences .entry)) (now (counts .entry)) (now (flags .entry))
-        (now (tips .entry)) (now (tails .entry)) (now (missing .entry)) (now (requested .entry)) (now (arrivals .entry)) (now (connected .entry))) (block .0) hash (sequence .0) (head .0) ⌝ }
+    ensures { λ r. ⌜ r ≡ late (now (parents .entry)) (now (sequences .entry)) (now (tips .entry)) (now (tails .entry))
+        (now (missing .entry)) (now (connected .entry)) (block .0) hash (sequence .0) (head .0) ⌝ }
 {
-    if !misses(
-        tips,
-        tails,
-        missing,
-        requested,
-        arrivals,
-        connected,
-        hash,
-        head,
-    ) {
+    if !misses(tips, missing, connected, hash, head) {
         return false;
     }
     let tail = word_at(tails, head.0);
@@ -121,10 +98,8 @@ fn join(
     connected: &mut [u8],
     block: BlockSlot,
 )
-    ensures { λ _. ⌜ tablesOf (now (hashes .entry)) (now (parents .entry)) (now (sequences .entry)) (now (counts .exit)) (now (flags .entry))
-        (now (tips .exit)) (now (tails .exit)) (now (missing .exit)) (now (requested .exit)) (now (arrivals .exit)) (now (connected .exit))
-        ≡ joinedRule (tablesOf (now (hashes .entry)) (now (parents .entry)) (now (sequences .entry)) (now (counts .entry)) (now (flags .entry))
-        (now (tips .entry)) (now (tails .entry)) (now (missing .entry)) (now (requested .entry)) (now (arrivals .entry)) (now (connected .entry))) (block .0) ⌝ }
+    ensures { λ _. ⌜ after hashes parents sequences counts flags tips tails missing requested arrivals connected
+        ≡ joinedRule (before hashes parents sequences counts flags tips tails missing requested arrivals connected) (block .0) ⌝ }
 {
     match slot_of_head(tips, block) {
         FoundHead::At(own) => put_head(
@@ -137,11 +112,11 @@ fn join(
             own,
             Head::empty(),
         ),
-        FoundHead::Nothing => count_child(sequences, counts, block),
+        FoundHead::Nothing => count_linked(sequences, counts, block),
     }
 }
 
-fn count_child(sequences: &[u32], counts: &mut [u8], block: BlockSlot)
+fn count_linked(sequences: &[u32], counts: &mut [u8], block: BlockSlot)
     ensures { λ _. ⌜ now (counts .exit) ≡ adjustCounts (now (sequences .entry)) (now (counts .entry)) (block .0) (pos 1) ⌝ }
 {
     adjust_head_ref_count(sequences, counts, block, 1);
@@ -162,10 +137,8 @@ fn link(
     block: BlockSlot,
     head: HeadSlot,
 )
-    ensures { λ _. ⌜ tablesOf (now (hashes .entry)) (now (parents .exit)) (now (sequences .entry)) (now (counts .exit)) (now (flags .entry))
-        (now (tips .exit)) (now (tails .exit)) (now (missing .exit)) (now (requested .exit)) (now (arrivals .exit)) (now (connected .exit))
-        ≡ linkRule (tablesOf (now (hashes .entry)) (now (parents .entry)) (now (sequences .entry)) (now (counts .entry)) (now (flags .entry))
-        (now (tips .entry)) (now (tails .entry)) (now (missing .entry)) (now (requested .entry)) (now (arrivals .entry)) (now (connected .entry))) (block .0) (head .0) ⌝ }
+    ensures { λ _. ⌜ after hashes parents sequences counts flags tips tails missing requested arrivals connected
+        ≡ linkRule (before hashes parents sequences counts flags tips tails missing requested arrivals connected) (block .0) (head .0) ⌝ }
 {
     let tail = BlockSlot(word_at(tails, head.0));
     resolve_parent_ref(parents, tail, block);
@@ -202,22 +175,16 @@ fn link_late(
     sequence: Sequence,
     head: HeadSlot,
 )
-    ensures { λ _. ⌜ tablesOf (now (hashes .entry)) (now (parents .exit)) (now (sequences .entry)) (now (counts .exit)) (now (flags .entry))
-        (now (tips .exit)) (now (tails .exit)) (now (missing .exit)) (now (requested .exit)) (now (arrivals .exit)) (now (connected .exit))
-        ≡ linkLate (block .0) hash (sequence .0) (head .0) (tablesOf (now (hashes .entry)) (now (parents .entry)) (now (sequences .entry)) (now (counts .entry)) (now (flags .entry))
-        (now (tips .entry)) (now (tails .entry)) (now (missing .entry)) (now (requested .entry)) (now (arrivals .entry)) (now (connected .entry))) ⌝ }
+    ensures { λ _. ⌜ after hashes parents sequences counts flags tips tails missing requested arrivals connected
+        ≡ linkLate (block .0) hash (sequence .0) (head .0)
+        (before hashes parents sequences counts flags tips tails missing requested arrivals connected) ⌝ }
 {
     if is_late(
-        hashes,
         parents,
         sequences,
-        counts,
-        flags,
         tips,
         tails,
         missing,
-        requested,
-        arrivals,
         connected,
         block,
         hash,
@@ -242,6 +209,8 @@ fn link_late(
     }
 }
 
+// In head-slot order each tail but the new block, of a stored head that misses its hash, one higher in sequence and without parent, is
+// linked; each clears the new block's own head if it has one, else adds 1 to its count.
 pub fn link_tails(
     hashes: &[u8],
     parents: &mut [u32],
@@ -257,35 +226,31 @@ pub fn link_tails(
     block: BlockSlot,
     sequence: Sequence,
 )
-    ensures { λ _. ⌜ tablesOf (now (hashes .entry)) (now (parents .exit)) (now (sequences .entry)) (now (counts .exit)) (now (flags .entry))
-        (now (tips .exit)) (now (tails .exit)) (now (missing .exit)) (now (requested .exit)) (now (arrivals .exit)) (now (connected .exit))
-        ≡ linkTails (tablesOf (now (hashes .entry)) (now (parents .entry)) (now (sequences .entry)) (now (counts .entry)) (now (flags .entry))
-        (now (tips .entry)) (now (tails .entry)) (now (missing .entry)) (now (requested .entry)) (now (arrivals .entry)) (now (connected .entry))) (block .0) (hashAt (now (hashes .entry)) (block .0)) (sequence .0) ⌝ }
+    ensures { λ _. ⌜ after hashes parents sequences counts flags tips tails missing requested arrivals connected
+        ≡ linkTails (before hashes parents sequences counts flags tips tails missing requested arrivals connected) (block .0)
+        (hashAt (now (hashes .entry)) (block .0)) (sequence .0) ⌝ }
 {
     let hash = hash_at(hashes, block.0);
-    let first = first_byte(hashes, block.0);
     let m = slots(tips);
     let mut k: u32 = 0;
     while k < m {
-        if may_miss(tips, missing, connected, first, HeadSlot(k)) {
-            link_late(
-                hashes,
-                parents,
-                sequences,
-                counts,
-                flags,
-                tips,
-                tails,
-                missing,
-                requested,
-                arrivals,
-                connected,
-                block,
-                hash,
-                sequence,
-                HeadSlot(k),
-            );
-        }
+        link_late(
+            hashes,
+            parents,
+            sequences,
+            counts,
+            flags,
+            tips,
+            tails,
+            missing,
+            requested,
+            arrivals,
+            connected,
+            block,
+            hash,
+            sequence,
+            HeadSlot(k),
+        );
         k += 1;
     }
 }

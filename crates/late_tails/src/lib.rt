@@ -1,16 +1,14 @@
 // The late tails are linked, then the heads that missed the new hash are worked out again.
 ghost use mathlib.Core.Path.{_≡_};
 ghost use Rattle.rules.specs.Hashes.{hashAt};
-ghost use Rattle.rules.specs.Records.{blocksOf, headsOf, tablesOf};
+ghost use Rattle.rules.specs.Records.{blocksBefore, headsBefore, headsAfter, before, after};
 ghost use Rattle.rules.specs.Admission.{recomputeMissed, recomputeMissing, resolveTails};
 use blocks::is_occupied;
 use caches::recompute_caches;
-use cells::first_byte;
 use cells::hash_at;
 use cells::slots;
 use cells::word_at;
 use late_links::link_tails;
-use late_links::may_miss;
 use late_links::misses;
 use rules::BlockSlot;
 use rules::HeadSlot;
@@ -33,19 +31,11 @@ fn recompute_missed(
     previous: &[u8],
     head: HeadSlot,
 )
-    ensures { λ _. ⌜ headsOf (now (tips .entry)) (now (tails .exit)) (now (missing .exit)) (now (requested .exit)) (now (arrivals .entry)) (now (connected .exit))
-        ≡ recomputeMissed (blocksOf (now (hashes .entry)) (now (parents .entry)) (now (sequences .entry)) (now (counts .entry)) (now (flags .entry))) (block .0) hash (now (previous .entry)) (head .0) (headsOf (now (tips .entry)) (now (tails .entry)) (now (missing .entry)) (now (requested .entry)) (now (arrivals .entry)) (now (connected .entry))) ⌝ }
+    ensures { λ _. ⌜ headsAfter tips tails missing requested arrivals connected
+        ≡ recomputeMissed (blocksBefore hashes parents sequences counts flags) (block .0) hash (now (previous .entry)) (head .0)
+        (headsBefore tips tails missing requested arrivals connected) ⌝ }
 {
-    if misses(
-        tips,
-        tails,
-        missing,
-        requested,
-        arrivals,
-        connected,
-        hash,
-        head,
-    ) {
+    if misses(tips, missing, connected, hash, head) {
         recompute_caches(
             parents,
             sequences,
@@ -77,39 +67,36 @@ fn recompute_missing(
     block: BlockSlot,
     previous: &[u8],
 )
-    ensures { λ _. ⌜ tablesOf (now (hashes .entry)) (now (parents .entry)) (now (sequences .entry)) (now (counts .entry)) (now (flags .entry))
-        (now (tips .entry)) (now (tails .exit)) (now (missing .exit)) (now (requested .exit)) (now (arrivals .entry)) (now (connected .exit))
-        ≡ recomputeMissing (tablesOf (now (hashes .entry)) (now (parents .entry)) (now (sequences .entry)) (now (counts .entry)) (now (flags .entry))
-        (now (tips .entry)) (now (tails .entry)) (now (missing .entry)) (now (requested .entry)) (now (arrivals .entry)) (now (connected .entry))) (block .0) (hashAt (now (hashes .entry)) (block .0)) (now (previous .entry)) ⌝ }
+    ensures { λ _. ⌜ after hashes parents sequences counts flags tips tails missing requested arrivals connected
+        ≡ recomputeMissing (before hashes parents sequences counts flags tips tails missing requested arrivals connected) (block .0)
+        (hashAt (now (hashes .entry)) (block .0)) (now (previous .entry)) ⌝ }
 {
     let hash = hash_at(hashes, block.0);
-    let first = first_byte(hashes, block.0);
     let m = slots(tips);
     let mut k: u32 = 0;
     while k < m {
-        if may_miss(tips, missing, connected, first, HeadSlot(k)) {
-            recompute_missed(
-                hashes,
-                parents,
-                sequences,
-                counts,
-                flags,
-                tips,
-                tails,
-                missing,
-                requested,
-                arrivals,
-                connected,
-                block,
-                hash,
-                previous,
-                HeadSlot(k),
-            );
-        }
+        recompute_missed(
+            hashes,
+            parents,
+            sequences,
+            counts,
+            flags,
+            tips,
+            tails,
+            missing,
+            requested,
+            arrivals,
+            connected,
+            block,
+            hash,
+            previous,
+            HeadSlot(k),
+        );
         k += 1;
     }
 }
 
+// Links the late tails, then works out again all stored heads that missed the new block's hash; if its slot is empty both are left out.
 pub fn resolve_pending_tails(
     hashes: &[u8],
     parents: &mut [u32],
@@ -125,10 +112,9 @@ pub fn resolve_pending_tails(
     block: BlockSlot,
     previous: &[u8],
 )
-    ensures { λ _. ⌜ tablesOf (now (hashes .entry)) (now (parents .exit)) (now (sequences .entry)) (now (counts .exit)) (now (flags .entry))
-        (now (tips .exit)) (now (tails .exit)) (now (missing .exit)) (now (requested .exit)) (now (arrivals .exit)) (now (connected .exit))
-        ≡ resolveTails (tablesOf (now (hashes .entry)) (now (parents .entry)) (now (sequences .entry)) (now (counts .entry)) (now (flags .entry))
-        (now (tips .entry)) (now (tails .entry)) (now (missing .entry)) (now (requested .entry)) (now (arrivals .entry)) (now (connected .entry))) (block .0) (now (previous .entry)) ⌝ }
+    ensures { λ _. ⌜ after hashes parents sequences counts flags tips tails missing requested arrivals connected
+        ≡ resolveTails (before hashes parents sequences counts flags tips tails missing requested arrivals connected) (block .0)
+        (now (previous .entry)) ⌝ }
 {
     if is_occupied(sequences, block) {
         let sequence = Sequence(word_at(sequences, block.0));

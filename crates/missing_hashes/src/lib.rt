@@ -111,7 +111,8 @@ pub fn keep_missing_hash(
     previous: &[u8],
 )
     ensures { λ _. ⌜ now (missing .exit)
-        ≡ missingKept (now (tips .entry)) (now (tails .entry)) (now (missing .entry)) (now (connected .entry)) (head .0) (tail .0) (arriving .0) (now (previous .entry)) ⌝ }
+        ≡ missingKept (now (tips .entry)) (now (tails .entry)) (now (missing .entry)) (now (connected .entry)) (head .0) (tail .0)
+        (arriving .0) (now (previous .entry)) ⌝ }
 {
     let mut known = head;
     if tail.0 != arriving.0 {

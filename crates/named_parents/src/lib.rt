@@ -19,6 +19,7 @@ fn name_parent(parents: &[u32], sequences: &[u32], named: &mut [u8], child: Bloc
     }
 }
 
+// A byte becomes 1 where an occupied block has its slot as parent, else 0; a parent past the last byte is left out.
 pub fn name_parents(parents: &[u32], sequences: &[u32], named: &mut [u8])
     ensures { λ _. ⌜ now (named .exit) ≡ namedParents (now (parents .entry)) (now (sequences .entry)) (length (now (named .entry))) ⌝ }
 {

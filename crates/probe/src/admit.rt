@@ -1,11 +1,12 @@
 // Admission, and admit's added step. A parent is a slot, or NONE_REF for none.
 ghost use mathlib.Core.Path.{_≡_};
 ghost use Rattle.probe.specs.Numbers.{slotOrNone};
-ghost use Rattle.rules.specs.Records.{tablesOf};
+ghost use Rattle.rules.specs.Records.{before, after};
 ghost use Rattle.rules.specs.Admission.{insertHead, resolveTails, admitted, refreshTails};
-use crate::numbers::slot_or_none;
+use crate::numbers::slot_from;
 use rules::BlockSlot;
 
+// Inserts a head with this tip, evicting first when full; `arriving` is NONE_REF where no block arrives.
 #[no_mangle]
 pub extern "C" fn probe_insert_head(
     hashes: &mut [u8],
@@ -25,10 +26,9 @@ pub extern "C" fn probe_insert_head(
     previous: &[u8],
     active: u32,
 )
-    ensures { λ _. ⌜ tablesOf (now (hashes .exit)) (now (parents .exit)) (now (sequences .exit)) (now (counts .exit)) (now (flags .exit))
-        (now (tips .exit)) (now (tails .exit)) (now (missing .exit)) (now (requested .exit)) (now (arrivals .exit)) (now (connected .exit))
-        ≡ insertHead (tablesOf (now (hashes .entry)) (now (parents .entry)) (now (sequences .entry)) (now (counts .entry)) (now (flags .entry))
-        (now (tips .entry)) (now (tails .entry)) (now (missing .entry)) (now (requested .entry)) (now (arrivals .entry)) (now (connected .entry))) tip arrival arriving (now (previous .entry)) active ⌝ }
+    ensures { λ _. ⌜ after hashes parents sequences counts flags tips tails missing requested arrivals connected
+        ≡ insertHead (before hashes parents sequences counts flags tips tails missing requested arrivals connected) tip arrival arriving
+        (now (previous .entry)) active ⌝ }
 {
     head_insertion::insert_head(
         hashes,
@@ -50,6 +50,7 @@ pub extern "C" fn probe_insert_head(
     );
 }
 
+// Links the late tails to the block, then works out again the heads that missed its hash; where its slot is empty nothing changes.
 #[no_mangle]
 pub extern "C" fn probe_resolve_pending_tails(
     hashes: &[u8],
@@ -66,10 +67,9 @@ pub extern "C" fn probe_resolve_pending_tails(
     block: u32,
     previous: &[u8],
 )
-    ensures { λ _. ⌜ tablesOf (now (hashes .entry)) (now (parents .exit)) (now (sequences .entry)) (now (counts .exit)) (now (flags .entry))
-        (now (tips .exit)) (now (tails .exit)) (now (missing .exit)) (now (requested .exit)) (now (arrivals .exit)) (now (connected .exit))
-        ≡ resolveTails (tablesOf (now (hashes .entry)) (now (parents .entry)) (now (sequences .entry)) (now (counts .entry)) (now (flags .entry))
-        (now (tips .entry)) (now (tails .entry)) (now (missing .entry)) (now (requested .entry)) (now (arrivals .entry)) (now (connected .entry))) block (now (previous .entry)) ⌝ }
+    ensures { λ _. ⌜ after hashes parents sequences counts flags tips tails missing requested arrivals connected
+        ≡ resolveTails (before hashes parents sequences counts flags tips tails missing requested arrivals connected) block
+        (now (previous .entry)) ⌝ }
 {
     late_tails::resolve_pending_tails(
         hashes,
@@ -88,6 +88,7 @@ pub extern "C" fn probe_resolve_pending_tails(
     );
 }
 
+// The block counts one more, its head is placed, and the late tails are linked.
 #[no_mangle]
 pub extern "C" fn probe_on_block_admitted(
     hashes: &mut [u8],
@@ -107,10 +108,9 @@ pub extern "C" fn probe_on_block_admitted(
     arrival: u64,
     active: u32,
 )
-    ensures { λ _. ⌜ tablesOf (now (hashes .exit)) (now (parents .exit)) (now (sequences .exit)) (now (counts .exit)) (now (flags .exit))
-        (now (tips .exit)) (now (tails .exit)) (now (missing .exit)) (now (requested .exit)) (now (arrivals .exit)) (now (connected .exit))
-        ≡ admitted (tablesOf (now (hashes .entry)) (now (parents .entry)) (now (sequences .entry)) (now (counts .entry)) (now (flags .entry))
-        (now (tips .entry)) (now (tails .entry)) (now (missing .entry)) (now (requested .entry)) (now (arrivals .entry)) (now (connected .entry))) block (slotOrNone parent) (now (previous .entry)) arrival active ⌝ }
+    ensures { λ _. ⌜ after hashes parents sequences counts flags tips tails missing requested arrivals connected
+        ≡ admitted (before hashes parents sequences counts flags tips tails missing requested arrivals connected) block
+        (slotOrNone parent) (now (previous .entry)) arrival active ⌝ }
 {
     admission::on_block_admitted(
         hashes,
@@ -125,13 +125,14 @@ pub extern "C" fn probe_on_block_admitted(
         arrivals,
         connected,
         BlockSlot(block),
-        slot_or_none(parent),
+        slot_from(parent),
         previous,
         arrival,
         BlockSlot(active),
     );
 }
 
+// Refreshes, by its tip, each stored head whose cached tail is occupied and now has a parent.
 #[no_mangle]
 pub extern "C" fn probe_refresh_tails(
     hashes: &[u8],
@@ -146,10 +147,8 @@ pub extern "C" fn probe_refresh_tails(
     arrivals: &[u64],
     connected: &mut [u8],
 )
-    ensures { λ _. ⌜ tablesOf (now (hashes .entry)) (now (parents .entry)) (now (sequences .entry)) (now (counts .entry)) (now (flags .entry))
-        (now (tips .entry)) (now (tails .exit)) (now (missing .exit)) (now (requested .exit)) (now (arrivals .entry)) (now (connected .exit))
-        ≡ refreshTails (tablesOf (now (hashes .entry)) (now (parents .entry)) (now (sequences .entry)) (now (counts .entry)) (now (flags .entry))
-        (now (tips .entry)) (now (tails .entry)) (now (missing .entry)) (now (requested .entry)) (now (arrivals .entry)) (now (connected .entry))) ⌝ }
+    ensures { λ _. ⌜ after hashes parents sequences counts flags tips tails missing requested arrivals connected
+        ≡ refreshTails (before hashes parents sequences counts flags tips tails missing requested arrivals connected) ⌝ }
 {
     tail_refresh::refresh_tails(
         hashes,

@@ -1,9 +1,10 @@
 // Removal.
 ghost use mathlib.Core.Path.{_≡_};
-ghost use Rattle.rules.specs.Records.{tablesOf};
+ghost use Rattle.rules.specs.Records.{before, after};
 ghost use Rattle.rules.specs.Removal.{recountAll, blocksDeleted};
 use rules::BlockSlot;
 
+// Every count becomes min(255, max(1, children)); an empty slot keeps its count.
 #[no_mangle]
 pub extern "C" fn probe_recompute_head_ref_counts(
     parents: &[u32],
@@ -15,6 +16,7 @@ pub extern "C" fn probe_recompute_head_ref_counts(
     recount::recompute_head_ref_counts(parents, sequences, counts);
 }
 
+// The listed blocks are freed already: the lowest of their heads may move to `reattach`, the rest are emptied; then caches and counts.
 #[no_mangle]
 pub extern "C" fn probe_on_blocks_deleted(
     hashes: &[u8],
@@ -31,10 +33,8 @@ pub extern "C" fn probe_on_blocks_deleted(
     deleted: &[u32],
     reattach: u32,
 )
-    ensures { λ _. ⌜ tablesOf (now (hashes .entry)) (now (parents .entry)) (now (sequences .entry)) (now (counts .exit)) (now (flags .entry))
-        (now (tips .exit)) (now (tails .exit)) (now (missing .exit)) (now (requested .exit)) (now (arrivals .exit)) (now (connected .exit))
-        ≡ blocksDeleted (tablesOf (now (hashes .entry)) (now (parents .entry)) (now (sequences .entry)) (now (counts .entry)) (now (flags .entry))
-        (now (tips .entry)) (now (tails .entry)) (now (missing .entry)) (now (requested .entry)) (now (arrivals .entry)) (now (connected .entry)))
+    ensures { λ _. ⌜ after hashes parents sequences counts flags tips tails missing requested arrivals connected
+        ≡ blocksDeleted (before hashes parents sequences counts flags tips tails missing requested arrivals connected)
         (now (deleted .entry)) reattach ⌝ }
 {
     removal::on_blocks_deleted(

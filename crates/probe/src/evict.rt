@@ -1,11 +1,12 @@
 // Eviction.
 ghost use mathlib.Core.Path.{_≡_};
 ghost use Rattle.as_numbers.specs.Numbers.{orNone};
-ghost use Rattle.rules.specs.Records.{tablesOf};
+ghost use Rattle.rules.specs.Records.{before, after};
 ghost use Rattle.rules.specs.Eviction.{victim, evictOne};
 use as_numbers::found_head;
 use rules::BlockSlot;
 
+// The head slot of the victim; NONE_REF is none.
 #[no_mangle]
 pub extern "C" fn probe_select_eviction_victim(
     hashes: &[u8],
@@ -18,6 +19,7 @@ pub extern "C" fn probe_select_eviction_victim(
     found_head(eviction::select_eviction_victim(hashes, sequences, tips, BlockSlot(active)))
 }
 
+// Empties the victim, whose walk lowers counts and frees blocks; without a victim nothing changes.
 #[no_mangle]
 pub extern "C" fn probe_evict_one(
     hashes: &mut [u8],
@@ -33,10 +35,8 @@ pub extern "C" fn probe_evict_one(
     connected: &mut [u8],
     active: u32,
 )
-    ensures { λ _. ⌜ tablesOf (now (hashes .exit)) (now (parents .exit)) (now (sequences .exit)) (now (counts .exit)) (now (flags .exit))
-        (now (tips .exit)) (now (tails .exit)) (now (missing .exit)) (now (requested .exit)) (now (arrivals .exit)) (now (connected .exit))
-        ≡ evictOne (tablesOf (now (hashes .entry)) (now (parents .entry)) (now (sequences .entry)) (now (counts .entry)) (now (flags .entry))
-        (now (tips .entry)) (now (tails .entry)) (now (missing .entry)) (now (requested .entry)) (now (arrivals .entry)) (now (connected .entry))) active ⌝ }
+    ensures { λ _. ⌜ after hashes parents sequences counts flags tips tails missing requested arrivals connected
+        ≡ evictOne (before hashes parents sequences counts flags tips tails missing requested arrivals connected) active ⌝ }
 {
     eviction::evict_one(
         hashes,

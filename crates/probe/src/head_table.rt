@@ -3,7 +3,8 @@ ghost use mathlib.Core.Path.{_≡_};
 ghost use Rattle.as_numbers.specs.Numbers.{orNone};
 ghost use Rattle.probe.specs.Numbers.{slotNumber, isHead, headGot};
 ghost use Rattle.rules.specs.Hashes.{hashAt};
-ghost use Rattle.rules.specs.Caches.{cachesOf, recompute, refreshHead, recomputeAll, nextHead, connectedHeadAt, storedHeadTail, setMissing};
+ghost use Rattle.rules.specs.Records.{cachesBefore, cachesAfter};
+ghost use Rattle.rules.specs.Caches.{recompute, refreshHead, recomputeAll, nextHead, connectedHeadAt, storedHeadTail, setMissing};
 ghost use Rattle.rules.specs.Admission.{firstEmpty};
 use crate::numbers::any_slot;
 use as_numbers::found_head;
@@ -12,6 +13,7 @@ use rules::BlockSlot;
 use rules::HeadSlot;
 use rules::NextHead;
 
+// The lowest empty head slot; NONE_REF is none.
 #[no_mangle]
 pub extern "C" fn probe_first_empty(tips: &[u32]) -> u32
     ensures { λ r. ⌜ r ≡ orNone (firstEmpty (now (tips .entry))) ⌝ }
@@ -41,6 +43,7 @@ pub extern "C" fn probe_next_occupied_head(
     }
 }
 
+// The tip of a connected head; 2^32 is none, for a stored or an empty one.
 #[no_mangle]
 pub extern "C" fn probe_connected_head_at(tips: &[u32], connected: &[u8], head: u32) -> u64
     ensures { λ r. ⌜ r ≡ slotNumber (connectedHeadAt (now (tips .entry)) (now (connected .entry)) head) ⌝ }
@@ -48,6 +51,7 @@ pub extern "C" fn probe_connected_head_at(tips: &[u32], connected: &[u8], head: 
     any_slot(head_entries::connected_head_at(tips, connected, HeadSlot(head)))
 }
 
+// The tail of a stored head, NONE_REF among them; 2^32 is none, for a connected or an empty one.
 #[no_mangle]
 pub extern "C" fn probe_stored_head_tail(
     tips: &[u32],
@@ -60,6 +64,7 @@ pub extern "C" fn probe_stored_head_tail(
     any_slot(head_entries::stored_head_tail(tips, tails, connected, HeadSlot(head)))
 }
 
+// Sets the missing hash of a head in use; an empty head keeps its own.
 #[no_mangle]
 pub extern "C" fn probe_set_missing_parent_hash(
     tips: &[u32],
@@ -73,6 +78,7 @@ pub extern "C" fn probe_set_missing_parent_hash(
     head_entries::set_missing_parent_hash(tips, missing, HeadSlot(head), bytes);
 }
 
+// Works out the caches of one head; `arriving` is NONE_REF where no block arrives.
 #[no_mangle]
 pub extern "C" fn probe_recompute_caches(
     parents: &[u32],
@@ -87,9 +93,9 @@ pub extern "C" fn probe_recompute_caches(
     arriving: u32,
     previous: &[u8],
 )
-    ensures { λ _. ⌜ cachesOf (now (tails .exit)) (now (missing .exit)) (now (requested .exit)) (now (connected .exit))
+    ensures { λ _. ⌜ cachesAfter tails missing requested connected
         ≡ recompute (now (parents .entry)) (now (sequences .entry)) (now (flags .entry)) (now (tips .entry))
-        (cachesOf (now (tails .entry)) (now (missing .entry)) (now (requested .entry)) (now (connected .entry))) head arriving (now (previous .entry)) ⌝ }
+        (cachesBefore tails missing requested connected) head arriving (now (previous .entry)) ⌝ }
 {
     caches::recompute_caches(
         parents,
@@ -106,6 +112,7 @@ pub extern "C" fn probe_recompute_caches(
     );
 }
 
+// Works out the caches of the lowest head with this tip; where no head has it, nothing changes.
 #[no_mangle]
 pub extern "C" fn probe_refresh_head(
     parents: &[u32],
@@ -118,9 +125,9 @@ pub extern "C" fn probe_refresh_head(
     connected: &mut [u8],
     tip: u32,
 )
-    ensures { λ _. ⌜ cachesOf (now (tails .exit)) (now (missing .exit)) (now (requested .exit)) (now (connected .exit))
+    ensures { λ _. ⌜ cachesAfter tails missing requested connected
         ≡ refreshHead (now (parents .entry)) (now (sequences .entry)) (now (flags .entry)) (now (tips .entry))
-        (cachesOf (now (tails .entry)) (now (missing .entry)) (now (requested .entry)) (now (connected .entry))) tip ⌝ }
+        (cachesBefore tails missing requested connected) tip ⌝ }
 {
     all_caches::refresh_head(
         parents,
@@ -135,6 +142,7 @@ pub extern "C" fn probe_refresh_head(
     );
 }
 
+// Works out the caches of every head in use, in slot order.
 #[no_mangle]
 pub extern "C" fn probe_recompute_all_caches(
     parents: &[u32],
@@ -146,9 +154,9 @@ pub extern "C" fn probe_recompute_all_caches(
     requested: &mut [u64],
     connected: &mut [u8],
 )
-    ensures { λ _. ⌜ cachesOf (now (tails .exit)) (now (missing .exit)) (now (requested .exit)) (now (connected .exit))
+    ensures { λ _. ⌜ cachesAfter tails missing requested connected
         ≡ recomputeAll (now (parents .entry)) (now (sequences .entry)) (now (flags .entry)) (now (tips .entry))
-        (cachesOf (now (tails .entry)) (now (missing .entry)) (now (requested .entry)) (now (connected .entry))) ⌝ }
+        (cachesBefore tails missing requested connected) ⌝ }
 {
     all_caches::recompute_all_caches(
         parents,

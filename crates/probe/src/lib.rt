@@ -6,7 +6,7 @@ ghost use lib.Dec.{eqb};
 ghost use Rattle.as_numbers.specs.Numbers.{orNone, yes};
 ghost use Rattle.probe.specs.Numbers.{insertionNumber, statusFrom};
 ghost use Rattle.rules.specs.Hashes.{hashAt, hashLess};
-ghost use Rattle.rules.specs.Records.{blocksOf, occupied, statusNumber};
+ghost use Rattle.rules.specs.Records.{occupied, statusNumber, blocksBefore, blocksAfter, blockOf};
 ghost use Rattle.rules.specs.BlockTable.{adjustedAt, adjustCounts, setOccupied, setOnActiveChain, setStatus, delete, insertion, insert, insertAt, resolveParent, setParent};
 ghost use Rattle.rules.specs.declared.Block.{Block};
 
@@ -38,6 +38,7 @@ fn status_from(number: u32) -> BlockStatus
     BlockStatus::Stored
 }
 
+// 1 if the first hash is the lower, else 0: the first byte that differs decides.
 #[no_mangle]
 pub extern "C" fn probe_hash_less(a: &[u8], b: &[u8]) -> u32
     ensures { λ r. ⌜ r ≡ yes (hashLess (hashAt (now (a .entry)) 0) (hashAt (now (b .entry)) 0)) ⌝ }
@@ -45,6 +46,7 @@ pub extern "C" fn probe_hash_less(a: &[u8], b: &[u8]) -> u32
     said(cells::hash_less(cells::hash_at(a, 0), cells::hash_at(b, 0)))
 }
 
+// Adds the change to the count and answers with the new one, held from 0 to 255; NONE_REF is an empty slot, which keeps its count.
 #[no_mangle]
 pub extern "C" fn probe_adjust_head_ref_count(
     sequences: &[u32],
@@ -58,6 +60,7 @@ pub extern "C" fn probe_adjust_head_ref_count(
     counted(block_counts::adjust_head_ref_count(sequences, counts, BlockSlot(slot), change))
 }
 
+// Sets the count; 1 if the slot is occupied, else 0 and nothing changes.
 #[no_mangle]
 pub extern "C" fn probe_set_head_ref_count(
     sequences: &[u32],
@@ -71,6 +74,7 @@ pub extern "C" fn probe_set_head_ref_count(
     said(block_counts::set_head_ref_count(sequences, counts, BlockSlot(slot), count))
 }
 
+// Sets bit 0 of the flags, or clears it where the value is 0; 1 if the slot is occupied, else 0 and nothing changes.
 #[no_mangle]
 pub extern "C" fn probe_set_on_active_chain(
     sequences: &[u32],
@@ -84,6 +88,7 @@ pub extern "C" fn probe_set_on_active_chain(
     said(block_flags::set_on_active_chain(sequences, flags, BlockSlot(slot), value != 0))
 }
 
+// Sets the status, 1 Connected, 2 Active, any other number Stored; 1 if the slot is occupied, else 0 and nothing changes.
 #[no_mangle]
 pub extern "C" fn probe_set_status(
     sequences: &[u32],
@@ -97,6 +102,7 @@ pub extern "C" fn probe_set_status(
     said(block_flags::set_status(sequences, flags, BlockSlot(slot), status_from(status)))
 }
 
+// Writes the block into the slot, be it occupied or empty; beyond n nothing changes.
 #[no_mangle]
 pub extern "C" fn probe_insert_at(
     hashes: &mut [u8],
@@ -111,8 +117,9 @@ pub extern "C" fn probe_insert_at(
     count: u8,
     bits: u8,
 )
-    ensures { λ _. ⌜ blocksOf (now (hashes .exit)) (now (parents .exit)) (now (sequences .exit)) (now (counts .exit)) (now (flags .exit))
-        ≡ insertAt (blocksOf (now (hashes .entry)) (now (parents .entry)) (now (sequences .entry)) (now (counts .entry)) (now (flags .entry))) slot (record { hash = hashAt (now (hash .entry)) 0; parent = record { 0 = parent }; sequence = record { 0 = sequence }; count = count; flags = bits }) ⌝ }
+    ensures { λ _. ⌜ blocksAfter hashes parents sequences counts flags
+        ≡ insertAt (blocksBefore hashes parents sequences counts flags) slot
+        (blockOf (hashAt (now (hash .entry)) 0) parent sequence count bits) ⌝ }
 {
     let bytes = cells::hash_at(hash, 0);
     let block = Block {
@@ -133,6 +140,7 @@ pub extern "C" fn probe_insert_at(
     );
 }
 
+// The lowest empty slot, which the block gets; 2^32 is the reserved sequence and one more a full table, and then nothing changes.
 #[no_mangle]
 pub extern "C" fn probe_insert(
     hashes: &mut [u8],
@@ -146,9 +154,13 @@ pub extern "C" fn probe_insert(
     count: u8,
     bits: u8,
 ) -> u64
-    ensures { λ r. ⌜ (r ≡ insertionNumber (insertion (now (sequences .entry)) (record { hash = hashAt (now (hash .entry)) 0; parent = record { 0 = parent }; sequence = record { 0 = sequence }; count = count; flags = bits })))
-        × (blocksOf (now (hashes .exit)) (now (parents .exit)) (now (sequences .exit)) (now (counts .exit)) (now (flags .exit))
-        ≡ insert (blocksOf (now (hashes .entry)) (now (parents .entry)) (now (sequences .entry)) (now (counts .entry)) (now (flags .entry))) (record { hash = hashAt (now (hash .entry)) 0; parent = record { 0 = parent }; sequence = record { 0 = sequence }; count = count; flags = bits })) ⌝ }
+    ensures { λ r. ⌜ (r
+        ≡ insertionNumber
+        (insertion (now (sequences .entry))
+        (blockOf (hashAt (now (hash .entry)) 0) parent sequence count bits)))
+        × (blocksAfter hashes parents sequences counts flags
+        ≡ insert (blocksBefore hashes parents sequences counts flags)
+        (blockOf (hashAt (now (hash .entry)) 0) parent sequence count bits)) ⌝ }
 {
     let bytes = cells::hash_at(hash, 0);
     let block = Block {
@@ -161,6 +173,7 @@ pub extern "C" fn probe_insert(
     inserted(block_changes::insert(hashes, parents, sequences, counts, flags, block))
 }
 
+// Empties the slot; 1 if it was occupied, else 0 and nothing changes.
 #[no_mangle]
 pub extern "C" fn probe_delete(
     hashes: &mut [u8],
@@ -171,12 +184,12 @@ pub extern "C" fn probe_delete(
     slot: u32,
 ) -> u32
     ensures { λ r. ⌜ (r ≡ yes (occupied (now (sequences .entry)) slot))
-        × (blocksOf (now (hashes .exit)) (now (parents .exit)) (now (sequences .exit)) (now (counts .exit)) (now (flags .exit))
-        ≡ delete (blocksOf (now (hashes .entry)) (now (parents .entry)) (now (sequences .entry)) (now (counts .entry)) (now (flags .entry))) slot) ⌝ }
+        × (blocksAfter hashes parents sequences counts flags ≡ delete (blocksBefore hashes parents sequences counts flags) slot) ⌝ }
 {
     said(block_changes::delete(hashes, parents, sequences, counts, flags, BlockSlot(slot)))
 }
 
+// Sets the parent; an empty slot is written too.
 #[no_mangle]
 pub extern "C" fn probe_resolve_parent_ref(parents: &mut [u32], slot: u32, parent: u32)
     ensures { λ _. ⌜ now (parents .exit) ≡ resolveParent (now (parents .entry)) slot parent ⌝ }
@@ -184,6 +197,7 @@ pub extern "C" fn probe_resolve_parent_ref(parents: &mut [u32], slot: u32, paren
     block_changes::resolve_parent_ref(parents, BlockSlot(slot), BlockSlot(parent));
 }
 
+// Sets the parent; 1 if the slot is occupied, else 0 and nothing changes.
 #[no_mangle]
 pub extern "C" fn probe_set_parent_ref(
     parents: &mut [u32],

@@ -7,6 +7,7 @@ use rules::Found;
 use rules::Inserted;
 use rules::Recovery;
 
+// The head slot times 2^32 plus the claimed sequence; the highest 64-bit number is none due.
 pub fn asked(r: Recovery) -> u64
     ensures { λ answer. ⌜ answer ≡ askNumber (askChosen r) ⌝ }
 {
@@ -16,6 +17,7 @@ pub fn asked(r: Recovery) -> u64
     }
 }
 
+// The slot; 2^32 is the reserved sequence, and one more a full table.
 pub fn inserted(r: Inserted) -> u64
     ensures { λ answer. ⌜ answer ≡ insertionNumber (insertionMade r) ⌝ }
 {
@@ -26,6 +28,7 @@ pub fn inserted(r: Inserted) -> u64
     }
 }
 
+// The slot, NONE_REF among them; 2^32 is none.
 pub fn any_slot(f: Found) -> u64
     ensures { λ answer. ⌜ answer ≡ slotNumber (slotFound f) ⌝ }
 {
@@ -35,7 +38,8 @@ pub fn any_slot(f: Found) -> u64
     }
 }
 
-pub fn slot_or_none(slot: u32) -> Found
+// The slot that a number stands for; NONE_REF is none.
+pub fn slot_from(slot: u32) -> Found
     ensures { λ r. ⌜ slotFound r ≡ slotOrNone slot ⌝ }
 {
     if slot == BlockSlot::NONE_REF.0 {

@@ -1,9 +1,10 @@
 // Rebuild.
 ghost use mathlib.Core.Path.{_≡_};
-ghost use Rattle.rules.specs.Records.{tablesOf};
+ghost use Rattle.rules.specs.Records.{before, after};
 ghost use Rattle.rules.specs.Rebuild.{rebuilt};
 use rules::BlockSlot;
 
+// Childless blocks in slot order become heads, evicting first when full; then counts are set as in removal.
 #[no_mangle]
 pub extern "C" fn probe_rebuild_from_blocks(
     hashes: &mut [u8],
@@ -20,10 +21,8 @@ pub extern "C" fn probe_rebuild_from_blocks(
     arrival: u64,
     active: u32,
 )
-    ensures { λ _. ⌜ tablesOf (now (hashes .exit)) (now (parents .exit)) (now (sequences .exit)) (now (counts .exit)) (now (flags .exit))
-        (now (tips .exit)) (now (tails .exit)) (now (missing .exit)) (now (requested .exit)) (now (arrivals .exit)) (now (connected .exit))
-        ≡ rebuilt (tablesOf (now (hashes .entry)) (now (parents .entry)) (now (sequences .entry)) (now (counts .entry)) (now (flags .entry))
-        (now (tips .entry)) (now (tails .entry)) (now (missing .entry)) (now (requested .entry)) (now (arrivals .entry)) (now (connected .entry))) arrival active ⌝ }
+    ensures { λ _. ⌜ after hashes parents sequences counts flags tips tails missing requested arrivals connected
+        ≡ rebuilt (before hashes parents sequences counts flags tips tails missing requested arrivals connected) arrival active ⌝ }
 {
     rebuild::rebuild_from_blocks(
         hashes,

@@ -1,26 +1,25 @@
 // Promote: the covered core, on the record's number.
 ghost use mathlib.Core.Path.{_≡_};
-ghost use mathlib.Core.Bool.{true, _||_};
-ghost use lib.Dec.{eqb};
-ghost use Rattle.rules.specs.Records.{NONE, tablesOf, parentAt};
+ghost use mathlib.Core.Bool.{true};
+ghost use Rattle.rules.specs.Records.{before, after};
 ghost use Rattle.rules.specs.Promotion.{promoted as promotedRule};
 ghost use Rattle.rules.specs.BlockTable.{setOnActiveChain, setStatus};
 ghost use Rattle.rules.specs.Answers.{outcomeSaid};
-ghost use Rattle.rules.specs.Calls.{stateOf, promote as promoteRule};
+ghost use Rattle.rules.specs.Calls.{stateOf, isNext, promote as promoteRule, Sets};
 use all_caches::recompute_all_caches;
 use block_flags::set_on_active_chain;
 use block_flags::set_status;
 use blocks::is_occupied;
 use cells::word_at;
-use recorded::Recorded;
 use rules::BlockSlot;
 use rules::BlockStatus;
 use rules::Outcome;
+use rules::Recorded;
 use rules::Refusal;
 use shape::is_shaped;
 
 fn is_next(parents: &[u32], active: BlockSlot, slot: BlockSlot) -> bool
-    ensures { λ r. ⌜ r ≡ (eqb (active .0) NONE || eqb (parentAt (now (parents .entry)) (slot .0)) (active .0)) ⌝ }
+    ensures { λ r. ⌜ r ≡ isNext (now (parents .entry)) (active .0) (slot .0) ⌝ }
 {
     if active.0 == BlockSlot::NONE_REF.0 {
         return true;
@@ -29,7 +28,8 @@ fn is_next(parents: &[u32], active: BlockSlot, slot: BlockSlot) -> bool
 }
 
 fn activate(sequences: &[u32], flags: &mut [u8], slot: BlockSlot)
-    ensures { λ _. ⌜ now (flags .exit) ≡ setStatus (now (sequences .entry)) (setOnActiveChain (now (sequences .entry)) (now (flags .entry)) (slot .0) true) (slot .0) 2 ⌝ }
+    ensures { λ _. ⌜ now (flags .exit)
+        ≡ setStatus (now (sequences .entry)) (setOnActiveChain (now (sequences .entry)) (now (flags .entry)) (slot .0) true) (slot .0) 2 ⌝ }
 {
     set_on_active_chain(sequences, flags, slot, true);
     set_status(sequences, flags, slot, BlockStatus::Active);
@@ -50,10 +50,8 @@ fn raise(
     connected: &mut [u8],
     slot: BlockSlot,
 )
-    ensures { λ _. ⌜ tablesOf (now (hashes .entry)) (now (parents .entry)) (now (sequences .entry)) (now (counts .entry)) (now (flags .exit))
-        (now (tips .entry)) (now (tails .exit)) (now (missing .exit)) (now (requested .exit)) (now (arrivals .entry)) (now (connected .exit))
-        ≡ promotedRule (tablesOf (now (hashes .entry)) (now (parents .entry)) (now (sequences .entry)) (now (counts .entry)) (now (flags .entry))
-        (now (tips .entry)) (now (tails .entry)) (now (missing .entry)) (now (requested .entry)) (now (arrivals .entry)) (now (connected .entry))) (slot .0) ⌝ }
+    ensures { λ _. ⌜ after hashes parents sequences counts flags tips tails missing requested arrivals connected
+        ≡ promotedRule (before hashes parents sequences counts flags tips tails missing requested arrivals connected) (slot .0) ⌝ }
 {
     activate(sequences, flags, slot);
     recompute_all_caches(
@@ -68,6 +66,7 @@ fn raise(
     );
 }
 
+// Sets the block's flag and status Active, works out all caches and gives its slot for the record; a refusal changes nothing.
 pub fn promote_at(
     hashes: &[u8],
     parents: &[u32],
@@ -83,14 +82,11 @@ pub fn promote_at(
     active: BlockSlot,
     slot: BlockSlot,
 ) -> Recorded
-    ensures { λ r. ⌜ (outcomeSaid (r .outcome) ≡ promoteRule (stateOf (tablesOf (now (hashes .entry)) (now (parents .entry)) (now (sequences .entry)) (now (counts .entry)) (now (flags .entry))
-        (now (tips .entry)) (now (tails .entry)) (now (missing .entry)) (now (requested .entry)) (now (arrivals .entry)) (now (connected .entry))) (active .0)) (slot .0) .answer)
-        × ((r .active .0 ≡ promoteRule (stateOf (tablesOf (now (hashes .entry)) (now (parents .entry)) (now (sequences .entry)) (now (counts .entry)) (now (flags .entry))
-        (now (tips .entry)) (now (tails .entry)) (now (missing .entry)) (now (requested .entry)) (now (arrivals .entry)) (now (connected .entry))) (active .0)) (slot .0) .after .activeHead)
-        × (tablesOf (now (hashes .entry)) (now (parents .entry)) (now (sequences .entry)) (now (counts .entry)) (now (flags .exit))
-        (now (tips .entry)) (now (tails .exit)) (now (missing .exit)) (now (requested .exit)) (now (arrivals .entry)) (now (connected .exit))
-        ≡ promoteRule (stateOf (tablesOf (now (hashes .entry)) (now (parents .entry)) (now (sequences .entry)) (now (counts .entry)) (now (flags .entry))
-        (now (tips .entry)) (now (tails .entry)) (now (missing .entry)) (now (requested .entry)) (now (arrivals .entry)) (now (connected .entry))) (active .0)) (slot .0) .after .tables)) ⌝ }
+    ensures { λ r. ⌜ Sets (outcomeSaid (r .outcome)) (r .active .0)
+        (after hashes parents sequences counts flags tips tails missing requested arrivals connected)
+        (promoteRule
+        (stateOf (before hashes parents sequences counts flags tips tails missing requested arrivals connected) (active .0))
+        (slot .0)) ⌝ }
 {
     if !is_shaped(
         hashes,

@@ -3,7 +3,7 @@ ghost use mathlib.Core.Path.{_≡_};
 ghost use mathlib.Core.Bool.{true, false, not};
 ghost use lib.ListN.{length};
 ghost use Rattle.rules.specs.Common.{if_then_else_, isSome};
-ghost use Rattle.rules.specs.Records.{tablesOf};
+ghost use Rattle.rules.specs.Records.{before, after};
 ghost use Rattle.rules.specs.Admission.{firstEmpty};
 ghost use Rattle.rules.specs.Rebuild.{rebuildAt, rebuildHeads, rebuilt};
 ghost use Rattle.named_parents.specs.Named.{namedParents};
@@ -26,7 +26,9 @@ fn is_full(tips: &[u32]) -> bool
 }
 
 fn name_again(parents: &[u32], sequences: &[u32], named: &mut [u8], stale: bool)
-    ensures { λ _. ⌜ now (named .exit) ≡ (if stale then namedParents (now (parents .entry)) (now (sequences .entry)) (length (now (named .entry))) else now (named .entry)) ⌝ }
+    ensures { λ _. ⌜ now (named .exit)
+        ≡ (if stale then namedParents (now (parents .entry)) (now (sequences .entry)) (length (now (named .entry))) else now
+        (named .entry)) ⌝ }
 {
     if stale {
         name_parents(parents, sequences, named);
@@ -52,10 +54,9 @@ fn rebuild_at(
     slot: BlockSlot,
 )
     ensures { λ _. ⌜ (now (named .entry) ≡ namedParents (now (parents .entry)) (now (sequences .entry)) (length (now (named .entry)))
-        → (tablesOf (now (hashes .exit)) (now (parents .exit)) (now (sequences .exit)) (now (counts .exit)) (now (flags .exit))
-        (now (tips .exit)) (now (tails .exit)) (now (missing .exit)) (now (requested .exit)) (now (arrivals .exit)) (now (connected .exit))
-        ≡ rebuildAt arrival (active .0) (slot .0) (tablesOf (now (hashes .entry)) (now (parents .entry)) (now (sequences .entry)) (now (counts .entry)) (now (flags .entry))
-        (now (tips .entry)) (now (tails .entry)) (now (missing .entry)) (now (requested .entry)) (now (arrivals .entry)) (now (connected .entry))))
+        → (after hashes parents sequences counts flags tips tails missing requested arrivals connected
+        ≡ rebuildAt arrival (active .0) (slot .0)
+        (before hashes parents sequences counts flags tips tails missing requested arrivals connected))
         × (now (named .exit) ≡ namedParents (now (parents .exit)) (now (sequences .exit)) (length (now (named .entry))))) ⌝ }
 {
     if is_end(parents, sequences, named, slot) {
@@ -99,10 +100,9 @@ fn rebuild_heads(
     arrival: u64,
     active: BlockSlot,
 )
-    ensures { λ _. ⌜ tablesOf (now (hashes .exit)) (now (parents .exit)) (now (sequences .exit)) (now (counts .exit)) (now (flags .exit))
-        (now (tips .exit)) (now (tails .exit)) (now (missing .exit)) (now (requested .exit)) (now (arrivals .exit)) (now (connected .exit))
-        ≡ rebuildHeads (tablesOf (now (hashes .entry)) (now (parents .entry)) (now (sequences .entry)) (now (counts .entry)) (now (flags .entry))
-        (now (tips .entry)) (now (tails .entry)) (now (missing .entry)) (now (requested .entry)) (now (arrivals .entry)) (now (connected .entry))) arrival (active .0) ⌝ }
+    ensures { λ _. ⌜ after hashes parents sequences counts flags tips tails missing requested arrivals connected
+        ≡ rebuildHeads (before hashes parents sequences counts flags tips tails missing requested arrivals connected) arrival
+        (active .0) ⌝ }
 {
     name_parents(parents, sequences, named);
     let n = slots(sequences);
@@ -129,6 +129,8 @@ fn rebuild_heads(
     }
 }
 
+// Childless blocks in slot order become heads with the given arrival time, beside the heads that are there, evicting first when full;
+// then counts are set as in removal.
 pub fn rebuild_from_blocks(
     hashes: &mut [u8],
     parents: &mut [u32],
@@ -144,10 +146,8 @@ pub fn rebuild_from_blocks(
     arrival: u64,
     active: BlockSlot,
 )
-    ensures { λ _. ⌜ tablesOf (now (hashes .exit)) (now (parents .exit)) (now (sequences .exit)) (now (counts .exit)) (now (flags .exit))
-        (now (tips .exit)) (now (tails .exit)) (now (missing .exit)) (now (requested .exit)) (now (arrivals .exit)) (now (connected .exit))
-        ≡ rebuilt (tablesOf (now (hashes .entry)) (now (parents .entry)) (now (sequences .entry)) (now (counts .entry)) (now (flags .entry))
-        (now (tips .entry)) (now (tails .entry)) (now (missing .entry)) (now (requested .entry)) (now (arrivals .entry)) (now (connected .entry))) arrival (active .0) ⌝ }
+    ensures { λ _. ⌜ after hashes parents sequences counts flags tips tails missing requested arrivals connected
+        ≡ rebuilt (before hashes parents sequences counts flags tips tails missing requested arrivals connected) arrival (active .0) ⌝ }
 {
     let mut named = [0u8; 1024];
     rebuild_heads(

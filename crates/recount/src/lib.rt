@@ -20,7 +20,8 @@ fn clear_count(sequences: &[u32], counts: &mut [u8], slot: BlockSlot)
 }
 
 fn clear_counts(sequences: &[u32], counts: &mut [u8])
-    ensures { λ _. ⌜ now (counts .exit) ≡ inOrder (clearCount (now (sequences .entry))) (slotsOf (now (sequences .entry))) (now (counts .entry)) ⌝ }
+    ensures { λ _. ⌜ now (counts .exit)
+        ≡ inOrder (clearCount (now (sequences .entry))) (slotsOf (now (sequences .entry))) (now (counts .entry)) ⌝ }
 {
     let n = slots(sequences);
     let mut i: u32 = 0;
@@ -44,7 +45,8 @@ fn count_child(parents: &[u32], sequences: &[u32], counts: &mut [u8], child: Blo
 }
 
 fn count_children(parents: &[u32], sequences: &[u32], counts: &mut [u8])
-    ensures { λ _. ⌜ now (counts .exit) ≡ inOrder (countChild (now (parents .entry)) (now (sequences .entry))) (slotsOf (now (sequences .entry))) (now (counts .entry)) ⌝ }
+    ensures { λ _. ⌜ now (counts .exit)
+        ≡ inOrder (countChild (now (parents .entry)) (now (sequences .entry))) (slotsOf (now (sequences .entry))) (now (counts .entry)) ⌝ }
 {
     let n = slots(sequences);
     let mut i: u32 = 0;
@@ -66,7 +68,8 @@ fn raise_count(sequences: &[u32], counts: &mut [u8], slot: BlockSlot)
 }
 
 fn raise_counts(sequences: &[u32], counts: &mut [u8])
-    ensures { λ _. ⌜ now (counts .exit) ≡ inOrder (raiseCount (now (sequences .entry))) (slotsOf (now (sequences .entry))) (now (counts .entry)) ⌝ }
+    ensures { λ _. ⌜ now (counts .exit)
+        ≡ inOrder (raiseCount (now (sequences .entry))) (slotsOf (now (sequences .entry))) (now (counts .entry)) ⌝ }
 {
     let n = slots(sequences);
     let mut i: u32 = 0;
@@ -76,6 +79,7 @@ fn raise_counts(sequences: &[u32], counts: &mut [u8])
     }
 }
 
+// Every count becomes min(255, max(1, children)); an empty slot keeps its count.
 pub fn recompute_head_ref_counts(parents: &[u32], sequences: &[u32], counts: &mut [u8])
     ensures { λ _. ⌜ now (counts .exit) ≡ recountAll (now (parents .entry)) (now (sequences .entry)) (now (counts .entry)) ⌝ }
 {

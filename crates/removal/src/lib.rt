@@ -2,10 +2,10 @@
 // of src/chain_heads.rs.
 ghost use mathlib.Core.Path.{_≡_};
 ghost use Rattle.rules.specs.Common.{isAt};
-ghost use Rattle.rules.specs.Records.{headsOf, tablesOf};
+ghost use Rattle.rules.specs.Records.{headsBefore, headsAfter, before, after};
 ghost use Rattle.rules.specs.Removal.{dropHead, dropHeads, blocksDeleted};
 ghost use Rattle.rules.specs.Answers.{headFound};
-ghost use Rattle.removal.specs.After.{headsAfter};
+ghost use Rattle.removal.specs.After.{headsLeft};
 use all_caches::recompute_all_caches;
 use cells::put_word;
 use cells::slots;
@@ -39,9 +39,9 @@ fn drop_head(
     reattach: BlockSlot,
     head: HeadSlot,
 )
-    ensures { λ _. ⌜ headsOf (now (tips .exit)) (now (tails .exit)) (now (missing .exit)) (now (requested .exit)) (now (arrivals .exit)) (now (connected .exit))
+    ensures { λ _. ⌜ headsAfter tips tails missing requested arrivals connected
         ≡ dropHead (now (deleted .entry)) (headFound moving) (reattach .0) (head .0)
-        (headsOf (now (tips .entry)) (now (tails .entry)) (now (missing .entry)) (now (requested .entry)) (now (arrivals .entry)) (now (connected .entry))) ⌝ }
+        (headsBefore tips tails missing requested arrivals connected) ⌝ }
 {
     if is_at(moving, head) {
         put_word(tips, head.0, reattach.0);
@@ -72,9 +72,9 @@ fn drop_heads(
     moving: FoundHead,
     reattach: BlockSlot,
 )
-    ensures { λ _. ⌜ headsOf (now (tips .exit)) (now (tails .exit)) (now (missing .exit)) (now (requested .exit)) (now (arrivals .exit)) (now (connected .exit))
+    ensures { λ _. ⌜ headsAfter tips tails missing requested arrivals connected
         ≡ dropHeads (now (deleted .entry)) (headFound moving) (reattach .0)
-        (headsOf (now (tips .entry)) (now (tails .entry)) (now (missing .entry)) (now (requested .entry)) (now (arrivals .entry)) (now (connected .entry))) ⌝ }
+        (headsBefore tips tails missing requested arrivals connected) ⌝ }
 {
     let m = slots(tips);
     let mut k: u32 = 0;
@@ -109,8 +109,9 @@ fn update_heads(
     moving: FoundHead,
     reattach: BlockSlot,
 )
-    ensures { λ _. ⌜ headsOf (now (tips .exit)) (now (tails .exit)) (now (missing .exit)) (now (requested .exit)) (now (arrivals .exit)) (now (connected .exit)) ≡ headsAfter (now (parents .entry)) (now (sequences .entry)) (now (flags .entry)) (now (deleted .entry)) (headFound moving) (reattach .0)
-        (headsOf (now (tips .entry)) (now (tails .entry)) (now (missing .entry)) (now (requested .entry)) (now (arrivals .entry)) (now (connected .entry))) ⌝ }
+    ensures { λ _. ⌜ headsAfter tips tails missing requested arrivals connected
+        ≡ headsLeft (now (parents .entry)) (now (sequences .entry)) (now (flags .entry)) (now (deleted .entry)) (headFound moving)
+        (reattach .0) (headsBefore tips tails missing requested arrivals connected) ⌝ }
 {
     drop_heads(
         tips,
@@ -151,10 +152,8 @@ pub fn on_blocks_deleted(
     deleted: &[u32],
     reattach: BlockSlot,
 )
-    ensures { λ _. ⌜ tablesOf (now (hashes .entry)) (now (parents .entry)) (now (sequences .entry)) (now (counts .exit)) (now (flags .entry))
-        (now (tips .exit)) (now (tails .exit)) (now (missing .exit)) (now (requested .exit)) (now (arrivals .exit)) (now (connected .exit))
-        ≡ blocksDeleted (tablesOf (now (hashes .entry)) (now (parents .entry)) (now (sequences .entry)) (now (counts .entry)) (now (flags .entry))
-        (now (tips .entry)) (now (tails .entry)) (now (missing .entry)) (now (requested .entry)) (now (arrivals .entry)) (now (connected .entry)))
+    ensures { λ _. ⌜ after hashes parents sequences counts flags tips tails missing requested arrivals connected
+        ≡ blocksDeleted (before hashes parents sequences counts flags tips tails missing requested arrivals connected)
         (now (deleted .entry)) (reattach .0) ⌝ }
 {
     let moving = heir(parents, sequences, tips, deleted, reattach);

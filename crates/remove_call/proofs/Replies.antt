@@ -11,7 +11,8 @@ use Rattle.rules.specs.Records.{Tables, slotsOf, parentAt, occupied}
 use Rattle.rules.specs.BlockTable.{inSubtree, markSubtree}
 use Rattle.rules.specs.Removal.{freeAll, blocksDeleted, removed}
 use Rattle.rules.specs.Answers.{Answer, refused, done, freed}
-use Rattle.rules.specs.Calls.{State, keeping, answering, refuse, maxBlocks, shaped, holdsActive, remove}
+use Rattle.rules.specs.Calls.{State, keeping, refuse, maxBlocks, shaped, holdsActive, remove, Does}
+use Rattle.rules.proofs.Does.{does, refuses}
 use Rattle.rules.proofs.Splits.{split}
 use Rattle.rules.proofs.Search.{all-few}
 use Rattle.rules.proofs.Kept.Shaped.{shaped-shape}
@@ -44,13 +45,16 @@ module _ (s : State) (root : ℕ) where
       (λ e2. f 3 (rw (e1, e2)) (rw (e1, e2))))
       (λ e1. f 1 (rw e1) (rw e1))
 
-  pub remove-refused : (k : ℕ) → said ≡ refused k → remove s root ≡ refuse s k
-  remove-refused k h = remove?
+  remove-refuses : (k : ℕ) → said ≡ refused k → remove s root ≡ refuse s k
+  remove-refuses k h = remove?
       (λ j q e.
       let p : refused j ≡ refused k = sym q ∙ h in
       let r : j ≡ k = cc in
       rw (← r) e)
       (λ _ _ q. done-not-refused k (sym q ∙ h))
+
+  pub remove-refused : (k : ℕ) → said ≡ refused k → Does (refused k) t (remove s root)
+  remove-refused k h = refuses {s = s} (remove-refuses k h)
 
   pub remove-begins : said ≡ done → (shaped t ≡ true) × (occupied (t .blocks .sequences) root ≡ true)
   remove-begins h = remove? (λ k q _. done-not-refused k (sym h ∙ q)) (λ e1 e2 _. (e1, e2))
@@ -60,17 +64,16 @@ module _ (s : State) (root : ℕ) where
     holds-active : holdsActive (t .blocks) root ≡ anyActive (t .blocks .flags) deleted
     holds-active = rw d (sym (marked-active (t .blocks) root (remove-begins h .1)))
 
-    pub remove-stops : anyActive (t .blocks .flags) deleted ≡ true → remove s root ≡ refuse s 9
+    pub remove-stops : anyActive (t .blocks .flags) deleted ≡ true → Does (refused 9) t (remove s root)
     unfolding remove
-    remove-stops a = rw (remove-begins h .0, remove-begins h .1, holds-active, a)
+    remove-stops a = refuses {s = s} (rw (remove-begins h .0, remove-begins h .1, holds-active, a))
 
-    pub remove-frees : (count : ℕ) → anyActive (t .blocks .flags) deleted ≡ false → count ≡ length marked
-        → (freed count ≡ remove s root .answer)
-        × (blocksDeleted (record { blocks = freeAll deleted (t .blocks); heads = t .heads }) deleted (parentAt (t .blocks .parents) root) ≡ remove s root .after .tables)
+    pub remove-frees : (count : ℕ) (left : Tables) → anyActive (t .blocks .flags) deleted ≡ false → count ≡ length marked
+        → left ≡ blocksDeleted (record { blocks = freeAll deleted (t .blocks); heads = t .heads }) deleted (parentAt (t .blocks .parents) root)
+        → Does (freed count) left (remove s root)
     unfolding remove removed
-    remove-frees count a c =
-        let e : remove s root ≡ answering (keeping s (removed t root)) (freed (length marked)) = rw (remove-begins h .0, remove-begins h .1, holds-active, a) in
-        (rw (e, c), rw (e, d))
+    remove-frees count left a c l =
+        does (keeping s (removed t root)) (rw (remove-begins h .0, remove-begins h .1, holds-active, a, c)) (l ∙ rw d)
 
 -- ---- the marked list
 

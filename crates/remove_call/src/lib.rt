@@ -3,10 +3,10 @@ ghost use mathlib.Core.Path.{_≡_};
 ghost use mathlib.Core.Bool.{not};
 ghost use Prim.Native.Nat.{ℕ, min};
 ghost use Rattle.rules.specs.Common.{if_then_else_};
-ghost use Rattle.rules.specs.Records.{blocksOf, headsOf, tablesOf, parentAt, occupied};
+ghost use Rattle.rules.specs.Records.{parentAt, occupied, blocksBefore, headsBefore, before, after};
 ghost use Rattle.rules.specs.Removal.{freeAll, blocksDeleted};
 ghost use Rattle.rules.specs.Answers.{refused, done, outcomeSaid, removedSaid};
-ghost use Rattle.rules.specs.Calls.{stateOf, maxBlocks, shaped, remove as removeRule};
+ghost use Rattle.rules.specs.Calls.{stateOf, maxBlocks, shaped, remove as removeRule, Does};
 use blocks::is_occupied;
 use cells::word_at;
 use freeing::free_all;
@@ -35,9 +35,11 @@ fn remove_listed(
     deleted: &[u32],
     root: BlockSlot,
 )
-    ensures { λ _. ⌜ tablesOf (now (hashes .exit)) (now (parents .exit)) (now (sequences .exit)) (now (counts .exit)) (now (flags .exit))
-        (now (tips .exit)) (now (tails .exit)) (now (missing .exit)) (now (requested .exit)) (now (arrivals .exit)) (now (connected .exit))
-        ≡ blocksDeleted (record { blocks = freeAll (now (deleted .entry)) (blocksOf (now (hashes .entry)) (now (parents .entry)) (now (sequences .entry)) (now (counts .entry)) (now (flags .entry))); heads = headsOf (now (tips .entry)) (now (tails .entry)) (now (missing .entry)) (now (requested .entry)) (now (arrivals .entry)) (now (connected .entry)) }) (now (deleted .entry)) (parentAt (now (parents .entry)) (root .0)) ⌝ }
+    ensures { λ _. ⌜ after hashes parents sequences counts flags tips tails missing requested arrivals connected
+        ≡ blocksDeleted (record {
+          blocks = freeAll (now (deleted .entry)) (blocksBefore hashes parents sequences counts flags);
+          heads = headsBefore tips tails missing requested arrivals connected;
+        }) (now (deleted .entry)) (parentAt (now (parents .entry)) (root .0)) ⌝ }
 {
     let parent = BlockSlot(word_at(parents, root.0));
     free_all(hashes, parents, sequences, counts, flags, deleted);
@@ -73,10 +75,9 @@ fn permit(
     connected: &[u8],
     root: BlockSlot,
 ) -> Outcome
-    ensures { λ r. ⌜ outcomeSaid r ≡ (if not (shaped (tablesOf (now (hashes .entry)) (now (parents .entry)) (now (sequences .entry)) (now (counts .entry)) (now (flags .entry))
-        (now (tips .entry)) (now (tails .entry)) (now (missing .entry)) (now (requested .entry)) (now (arrivals .entry)) (now (connected .entry)))) then refused 1
-        else if not (occupied (now (sequences .entry)) (root .0)) then refused 3
-        else done) ⌝ }
+    ensures { λ r. ⌜ outcomeSaid r
+        ≡ (if not (shaped (before hashes parents sequences counts flags tips tails missing requested arrivals connected)) then refused 1
+        else if not (occupied (now (sequences .entry)) (root .0)) then refused 3 else done) ⌝ }
 {
     if !is_shaped(
         hashes,
@@ -108,6 +109,7 @@ fn at_most(count: u32) -> usize
     count as usize
 }
 
+// Frees the root's subtree, tells the heads and returns the number of blocks freed; a refusal changes nothing.
 pub fn remove(
     hashes: &mut [u8],
     parents: &mut [u32],
@@ -122,12 +124,11 @@ pub fn remove(
     connected: &mut [u8],
     root: BlockSlot,
 ) -> Removed
-    ensures { λ r. ⌜ ((a : ℕ) → (removedSaid r ≡ removeRule (stateOf (tablesOf (now (hashes .entry)) (now (parents .entry)) (now (sequences .entry)) (now (counts .entry)) (now (flags .entry))
-        (now (tips .entry)) (now (tails .entry)) (now (missing .entry)) (now (requested .entry)) (now (arrivals .entry)) (now (connected .entry))) a) (root .0) .answer)
-        × (tablesOf (now (hashes .exit)) (now (parents .exit)) (now (sequences .exit)) (now (counts .exit)) (now (flags .exit))
-        (now (tips .exit)) (now (tails .exit)) (now (missing .exit)) (now (requested .exit)) (now (arrivals .exit)) (now (connected .exit))
-        ≡ removeRule (stateOf (tablesOf (now (hashes .entry)) (now (parents .entry)) (now (sequences .entry)) (now (counts .entry)) (now (flags .entry))
-        (now (tips .entry)) (now (tails .entry)) (now (missing .entry)) (now (requested .entry)) (now (arrivals .entry)) (now (connected .entry))) a) (root .0) .after .tables)) ⌝ }
+    ensures { λ r. ⌜ ((activeHead : ℕ) → Does (removedSaid r)
+        (after hashes parents sequences counts flags tips tails missing requested arrivals connected)
+        (removeRule
+        (stateOf (before hashes parents sequences counts flags tips tails missing requested arrivals connected) activeHead)
+        (root .0))) ⌝ }
 {
     match permit(
         hashes,

@@ -1,22 +1,26 @@
--- A restart as the code does it.
+-- Both ways through a restart, over any state.
 use mathlib.Core.Path.{_≡_, _∙_}
 use mathlib.Core.List.{List}
-use mathlib.Core.Bool.{true}
+use mathlib.Core.Bool.{true, false}
 use Prim.Native.Nat.{ℕ}
-use lib.ListN.{length, replicate}
-use Rattle.rules.specs.Records.{NONE, Heads, Tables, headsOf}
-use Rattle.rules.specs.BlockTable.{withCounts}
+use Rattle.rules.specs.Records.{Heads, Tables, headsEmptied, withCounts}
 use Rattle.rules.specs.Removal.{recountAll}
 use Rattle.rules.specs.Rebuild.{rebuilt, restarted}
-use Rattle.rules.specs.Answers.{done}
-use Rattle.rules.specs.Calls.{stateOf, shaped, restart}
+use Rattle.rules.specs.Answers.{refused, done}
+use Rattle.rules.specs.Calls.{State, keeping, shaped, restart, Does}
+use Rattle.rules.proofs.Does.{does, refuses}
 use Rattle.empties.proofs.Empties.{heads-empty}
 
-module _ (t : Tables) (e : shaped t ≡ true) where
-  pub restart-done : (arrival active : ℕ) (counts : List ℕ) (h : Heads) → counts ≡ recountAll (t .blocks .parents) (t .blocks .sequences) (t .blocks .counts)
-      → h ≡ headsOf (replicate (length (t .heads .tips)) NONE) (replicate (length (t .heads .tails)) NONE) (replicate (length (t .heads .missing)) 0)
-      (replicate (length (t .heads .requested)) 0) (replicate (length (t .heads .arrivals)) 0) (replicate (length (t .heads .connected)) 0)
-      → (done ≡ restart (stateOf t active) arrival .answer)
-      × (rebuilt (record { blocks = withCounts (t .blocks) counts; heads = h }) arrival active ≡ restart (stateOf t active) arrival .after .tables)
+module _ (s : State) (now : ℕ) where
+  pub misshapen : shaped (s .tables) ≡ false → Does (refused 1) (s .tables) (restart s now)
+  unfolding restart
+  misshapen e = refuses {s = s} (rw e)
+
+  -- the heads are emptied, the counts set, the heads rebuilt
+  pub rebuilt-anew : (counts : List ℕ) (h : Heads) (t : Tables) → shaped (s .tables) ≡ true → h ≡ headsEmptied (s .tables .heads)
+      → counts ≡ recountAll (s .tables .blocks .parents) (s .tables .blocks .sequences) (s .tables .blocks .counts)
+      → t ≡ rebuilt (record { blocks = withCounts (s .tables .blocks) counts; heads = h }) now (s .activeHead) → Does done t (restart s now)
   unfolding restart restarted
-  restart-done arrival active counts h c q = let g = q ∙ heads-empty t e in (rw e, rw (e, c, g))
+  rebuilt-anew counts h t e q c r =
+      let g = q ∙ heads-empty (s .tables) e in
+      does (keeping s (restarted (s .tables) now (s .activeHead))) (rw e) (r ∙ rw (c, g))

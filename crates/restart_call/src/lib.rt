@@ -1,8 +1,8 @@
 // Restart.
 ghost use mathlib.Core.Path.{_≡_};
-ghost use Rattle.rules.specs.Records.{tablesOf};
+ghost use Rattle.rules.specs.Records.{before, after};
 ghost use Rattle.rules.specs.Answers.{outcomeSaid};
-ghost use Rattle.rules.specs.Calls.{stateOf, restart as restartRule};
+ghost use Rattle.rules.specs.Calls.{stateOf, restart as restartRule, Does};
 use empties::empty_heads;
 use rebuild::rebuild_from_blocks;
 use recount::recompute_head_ref_counts;
@@ -11,6 +11,7 @@ use rules::Outcome;
 use rules::Refusal;
 use shape::is_shaped;
 
+// Empties the heads, sets the counts, then rebuilds the heads with `clock` as their arrival time; a refusal changes nothing.
 pub fn restart(
     hashes: &mut [u8],
     parents: &mut [u32],
@@ -26,12 +27,11 @@ pub fn restart(
     active: BlockSlot,
     clock: u64,
 ) -> Outcome
-    ensures { λ r. ⌜ (outcomeSaid r ≡ restartRule (stateOf (tablesOf (now (hashes .entry)) (now (parents .entry)) (now (sequences .entry)) (now (counts .entry)) (now (flags .entry))
-        (now (tips .entry)) (now (tails .entry)) (now (missing .entry)) (now (requested .entry)) (now (arrivals .entry)) (now (connected .entry))) (active .0)) clock .answer)
-        × (tablesOf (now (hashes .exit)) (now (parents .exit)) (now (sequences .exit)) (now (counts .exit)) (now (flags .exit))
-        (now (tips .exit)) (now (tails .exit)) (now (missing .exit)) (now (requested .exit)) (now (arrivals .exit)) (now (connected .exit))
-        ≡ restartRule (stateOf (tablesOf (now (hashes .entry)) (now (parents .entry)) (now (sequences .entry)) (now (counts .entry)) (now (flags .entry))
-        (now (tips .entry)) (now (tails .entry)) (now (missing .entry)) (now (requested .entry)) (now (arrivals .entry)) (now (connected .entry))) (active .0)) clock .after .tables) ⌝ }
+    ensures { λ r. ⌜ Does (outcomeSaid r)
+        (after hashes parents sequences counts flags tips tails missing requested arrivals connected)
+        (restartRule
+        (stateOf (before hashes parents sequences counts flags tips tails missing requested arrivals connected) (active .0))
+        clock) ⌝ }
 {
     if !is_shaped(
         hashes,

@@ -1,8 +1,8 @@
 // Whether the buffers fit one another, and n and m are in range.
 ghost use mathlib.Core.Path.{_≡_};
 ghost use lib.ListN.{length};
-ghost use Rattle.rules.specs.Records.{blocksOf, headsOf, tablesOf};
-ghost use Rattle.rules.specs.Calls.{blocksFit, headsFit, shaped};
+ghost use Rattle.rules.specs.Records.{blocksFit, headsFit, blocksBefore, headsBefore, before};
+ghost use Rattle.rules.specs.Calls.{shaped};
 
 fn blocks_fit(
     hashes: &[u8],
@@ -11,7 +11,7 @@ fn blocks_fit(
     counts: &[u8],
     flags: &[u8],
 ) -> bool
-    ensures { λ r. ⌜ r ≡ blocksFit (blocksOf (now (hashes .entry)) (now (parents .entry)) (now (sequences .entry)) (now (counts .entry)) (now (flags .entry))) (length (now (parents .entry))) ⌝ }
+    ensures { λ r. ⌜ r ≡ blocksFit (blocksBefore hashes parents sequences counts flags) (length (now (parents .entry))) ⌝ }
 {
     let n = parents.len();
     if hashes.len() / 32 != n {
@@ -37,7 +37,7 @@ fn heads_fit(
     arrivals: &[u64],
     connected: &[u8],
 ) -> bool
-    ensures { λ r. ⌜ r ≡ headsFit (headsOf (now (tips .entry)) (now (tails .entry)) (now (missing .entry)) (now (requested .entry)) (now (arrivals .entry)) (now (connected .entry))) (length (now (tips .entry))) ⌝ }
+    ensures { λ r. ⌜ r ≡ headsFit (headsBefore tips tails missing requested arrivals connected) (length (now (tips .entry))) ⌝ }
 {
     let m = tips.len();
     if tails.len() != m {
@@ -58,6 +58,7 @@ fn heads_fit(
     connected.len() == m
 }
 
+// Whether n, the number of parents, is 1 to 1,024, m, that of tips, is 2 to 64, and the length of every other buffer fits n or m.
 pub fn is_shaped(
     hashes: &[u8],
     parents: &[u32],
@@ -71,8 +72,7 @@ pub fn is_shaped(
     arrivals: &[u64],
     connected: &[u8],
 ) -> bool
-    ensures { λ r. ⌜ r ≡ shaped (tablesOf (now (hashes .entry)) (now (parents .entry)) (now (sequences .entry)) (now (counts .entry)) (now (flags .entry))
-        (now (tips .entry)) (now (tails .entry)) (now (missing .entry)) (now (requested .entry)) (now (arrivals .entry)) (now (connected .entry))) ⌝ }
+    ensures { λ r. ⌜ r ≡ shaped (before hashes parents sequences counts flags tips tails missing requested arrivals connected) ⌝ }
 {
     let n = parents.len();
     let m = tips.len();

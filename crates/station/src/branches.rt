@@ -13,6 +13,7 @@ use branch_value::Rank;
 use cells::hash_at;
 use rules::BlockSlot;
 
+// How many heads are in use.
 #[no_mangle]
 pub extern "C" fn station_count(tips: &[u32]) -> u32
     ensures { λ r. ⌜ r ≡ headCount (now (tips .entry)) ⌝ }
@@ -20,6 +21,7 @@ pub extern "C" fn station_count(tips: &[u32]) -> u32
     heads::count(tips)
 }
 
+// 1 if some head is stored, else 0.
 #[no_mangle]
 pub extern "C" fn station_has_stored_head(tips: &[u32], connected: &[u8]) -> u32
     ensures { λ r. ⌜ r ≡ yes (hasStoredHead (now (tips .entry)) (now (connected .entry))) ⌝ }
@@ -27,6 +29,7 @@ pub extern "C" fn station_has_stored_head(tips: &[u32], connected: &[u8]) -> u32
     said(heads::has_stored_head(tips, connected))
 }
 
+// The lowest head slot with this tip; NONE_REF is none.
 #[no_mangle]
 pub extern "C" fn station_slot_of_head(tips: &[u32], tip: u32) -> u32
     ensures { λ r. ⌜ r ≡ orNone (slotOfHead (now (tips .entry)) tip) ⌝ }
@@ -34,6 +37,7 @@ pub extern "C" fn station_slot_of_head(tips: &[u32], tip: u32) -> u32
     found_head(heads::slot_of_head(tips, BlockSlot(tip)))
 }
 
+// Where the parent walk from the slot ends: the slot of a tail, or that of a connection with 2^32 added.
 #[no_mangle]
 pub extern "C" fn station_locate_anchor(
     parents: &[u32],
@@ -46,6 +50,7 @@ pub extern "C" fn station_locate_anchor(
     anchored(anchor::locate_anchor(parents, sequences, flags, BlockSlot(start)))
 }
 
+// 1 if the first branch has the higher value, then the greater length, then the lower hash, else 0.
 #[no_mangle]
 pub extern "C" fn station_outranks(
     value: u64,
@@ -55,7 +60,10 @@ pub extern "C" fn station_outranks(
     len2: u16,
     hash2: &[u8],
 ) -> u32
-    ensures { λ r. ⌜ r ≡ yes (outranks (record { value = value; length = len; hash = hashAt (now (hash .entry)) 0 }) (record { value = value2; length = len2; hash = hashAt (now (hash2 .entry)) 0 })) ⌝ }
+    ensures { λ r. ⌜ r
+        ≡ yes
+        (outranks (record { value = value; length = len; hash = hashAt (now (hash .entry)) 0 })
+        (record { value = value2; length = len2; hash = hashAt (now (hash2 .entry)) 0 })) ⌝ }
 {
     let mine = hash_at(hash, 0);
     let theirs = hash_at(hash2, 0);

@@ -6,7 +6,7 @@ ghost use lib.Seq.{sets};
 ghost use Rattle.as_numbers.specs.Numbers.{orNone, yes};
 ghost use Rattle.station.specs.Blocks.{isThere, hashGot, wordsGot};
 ghost use Rattle.rules.specs.Hashes.{hashAt};
-ghost use Rattle.rules.specs.Records.{blocksOf};
+ghost use Rattle.rules.specs.Records.{blocksBefore};
 ghost use Rattle.rules.specs.BlockTable.{find, nextFree, findParent, get, headRefCount, statusAt, markSubtree, walksToActiveChain};
 use as_numbers::counted;
 use as_numbers::found;
@@ -24,6 +24,7 @@ fn put_words(words: &mut [u32], a: u32, b: u32, c: u32, d: u32)
     cells::put_word(words, 3, d);
 }
 
+// The lowest occupied slot with this sequence and hash; NONE_REF is none.
 #[no_mangle]
 pub extern "C" fn station_find(hashes: &[u8], sequences: &[u32], sequence: u32, hash: &[u8]) -> u32
     ensures { λ r. ⌜ r ≡ orNone (find (now (hashes .entry)) (now (sequences .entry)) sequence (hashAt (now (hash .entry)) 0)) ⌝ }
@@ -36,6 +37,7 @@ pub extern "C" fn station_find(hashes: &[u8], sequences: &[u32], sequence: u32, 
     ))
 }
 
+// The lowest empty slot; NONE_REF is none.
 #[no_mangle]
 pub extern "C" fn station_next_free_index(sequences: &[u32]) -> u32
     ensures { λ r. ⌜ r ≡ orNone (nextFree (now (sequences .entry))) ⌝ }
@@ -43,6 +45,7 @@ pub extern "C" fn station_next_free_index(sequences: &[u32]) -> u32
     found(blocks::next_free_index(sequences))
 }
 
+// The lowest slot with the sequence one lower and the previous hash; NONE_REF is none, and sequence 0 has none.
 #[no_mangle]
 pub extern "C" fn station_find_parent(
     hashes: &[u8],
@@ -50,16 +53,19 @@ pub extern "C" fn station_find_parent(
     previous: &[u8],
     sequence: u32,
 ) -> u32
-    ensures { λ r. ⌜ r ≡ orNone (findParent (now (hashes .entry)) (now (sequences .entry)) (hashAt (now (previous .entry)) 0) sequence) ⌝ }
+    ensures { λ r. ⌜ r
+        ≡ orNone (findParent (now (hashes .entry)) (now (sequences .entry)) sequence (hashAt (now (previous .entry)) 0)) ⌝ }
 {
     found(blocks::find_parent(
         hashes,
         sequences,
-        cells::hash_at(previous, 0),
         Sequence(sequence),
+        cells::hash_at(previous, 0),
     ))
 }
 
+// 1 if the slot is occupied, with its hash in the one list and parent, sequence, count and flags in the other; else 0, and nothing is
+// written.
 #[no_mangle]
 pub extern "C" fn station_get(
     hashes: &[u8],
@@ -71,9 +77,9 @@ pub extern "C" fn station_get(
     hash: &mut [u8],
     words: &mut [u32],
 ) -> u32
-    ensures { λ r. ⌜ (r ≡ isThere (get (blocksOf (now (hashes .entry)) (now (parents .entry)) (now (sequences .entry)) (now (counts .entry)) (now (flags .entry))) slot))
-        × ((now (hash .exit) ≡ hashGot (get (blocksOf (now (hashes .entry)) (now (parents .entry)) (now (sequences .entry)) (now (counts .entry)) (now (flags .entry))) slot) (now (hash .entry)))
-        × (now (words .exit) ≡ wordsGot (get (blocksOf (now (hashes .entry)) (now (parents .entry)) (now (sequences .entry)) (now (counts .entry)) (now (flags .entry))) slot) (now (words .entry)))) ⌝ }
+    ensures { λ r. ⌜ (r ≡ isThere (get (blocksBefore hashes parents sequences counts flags) slot))
+        × ((now (hash .exit) ≡ hashGot (get (blocksBefore hashes parents sequences counts flags) slot) (now (hash .entry)))
+        × (now (words .exit) ≡ wordsGot (get (blocksBefore hashes parents sequences counts flags) slot) (now (words .entry)))) ⌝ }
 {
     let got = block_reading::get(hashes, parents, sequences, counts, flags, BlockSlot(slot));
     if got.there {
@@ -94,6 +100,7 @@ pub extern "C" fn station_get(
     0
 }
 
+// The count of the block in a slot; NONE_REF for an empty or out-of-range slot.
 #[no_mangle]
 pub extern "C" fn station_head_ref_count(sequences: &[u32], counts: &[u8], slot: u32) -> u32
     ensures { λ r. ⌜ r ≡ orNone (headRefCount (now (sequences .entry)) (now (counts .entry)) slot) ⌝ }
@@ -101,6 +108,7 @@ pub extern "C" fn station_head_ref_count(sequences: &[u32], counts: &[u8], slot:
     counted(block_reading::head_ref_count(sequences, counts, BlockSlot(slot)))
 }
 
+// The block's status, 0 Stored, 1 Connected, 2 Active; NONE_REF for an empty or out-of-range slot.
 #[no_mangle]
 pub extern "C" fn station_status(sequences: &[u32], flags: &[u8], slot: u32) -> u32
     ensures { λ r. ⌜ r ≡ orNone (statusAt (now (sequences .entry)) (now (flags .entry)) slot) ⌝ }
@@ -108,6 +116,7 @@ pub extern "C" fn station_status(sequences: &[u32], flags: &[u8], slot: u32) -> 
     status_found(block_reading::status(sequences, flags, BlockSlot(slot)))
 }
 
+// How many blocks the root's subtree has, 0 where the root is empty; their slots are written in order, as far as the list has room.
 #[no_mangle]
 pub extern "C" fn station_mark_subtree(
     parents: &[u32],
@@ -121,6 +130,7 @@ pub extern "C" fn station_mark_subtree(
     subtree::mark_subtree(parents, sequences, BlockSlot(root), out)
 }
 
+// 1 if the parent walk from the slot meets an active block in n tries, else 0.
 #[no_mangle]
 pub extern "C" fn station_walks_to_active_chain(
     parents: &[u32],

@@ -1,23 +1,18 @@
 // The calls that set the record, which is lent to them.
 ghost use mathlib.Core.Path.{_≡_};
-ghost use Rattle.rules.specs.Records.{tablesOf};
+ghost use Rattle.rules.specs.Records.{before, after};
 ghost use Rattle.rules.specs.Calls.{stateOf, promote as promoteRule, fresh as freshRule};
-ghost use Rattle.call_numbers.specs.Numbers.{answerNumber};
+ghost use Rattle.call_numbers.specs.Numbers.{GivesAndSets};
 use call_numbers::outcome_number;
 use fresh_call::fresh_at;
 use promote_call::promote_at;
+use rules::ActiveHead;
 use rules::BlockSlot;
-
-// The record as C has it, its slot a number.
-#[repr(C)]
-pub struct ActiveSlot {
-    pub slot: u32,
-}
 
 // The answer, and what the record then holds.
 struct Kept {
     answer: u64,
-    active: u32,
+    active: BlockSlot,
 }
 
 fn promote_kept(
@@ -32,17 +27,14 @@ fn promote_kept(
     requested: &mut [u64],
     arrivals: &[u64],
     connected: &mut [u8],
-    active: u32,
+    active: BlockSlot,
     slot: u32,
 ) -> Kept
-    ensures { λ r. ⌜ (r .answer ≡ answerNumber (promoteRule (stateOf (tablesOf (now (hashes .entry)) (now (parents .entry)) (now (sequences .entry)) (now (counts .entry)) (now (flags .entry))
-        (now (tips .entry)) (now (tails .entry)) (now (missing .entry)) (now (requested .entry)) (now (arrivals .entry)) (now (connected .entry))) active) slot .answer))
-        × ((r .active ≡ promoteRule (stateOf (tablesOf (now (hashes .entry)) (now (parents .entry)) (now (sequences .entry)) (now (counts .entry)) (now (flags .entry))
-        (now (tips .entry)) (now (tails .entry)) (now (missing .entry)) (now (requested .entry)) (now (arrivals .entry)) (now (connected .entry))) active) slot .after .activeHead)
-        × (tablesOf (now (hashes .entry)) (now (parents .entry)) (now (sequences .entry)) (now (counts .entry)) (now (flags .exit))
-        (now (tips .entry)) (now (tails .exit)) (now (missing .exit)) (now (requested .exit)) (now (arrivals .entry)) (now (connected .exit))
-        ≡ promoteRule (stateOf (tablesOf (now (hashes .entry)) (now (parents .entry)) (now (sequences .entry)) (now (counts .entry)) (now (flags .entry))
-        (now (tips .entry)) (now (tails .entry)) (now (missing .entry)) (now (requested .entry)) (now (arrivals .entry)) (now (connected .entry))) active) slot .after .tables)) ⌝ }
+    ensures { λ r. ⌜ GivesAndSets (r .answer) (r .active .0)
+        (after hashes parents sequences counts flags tips tails missing requested arrivals connected)
+        (promoteRule
+        (stateOf (before hashes parents sequences counts flags tips tails missing requested arrivals connected) (active .0))
+        slot) ⌝ }
 {
     let recorded = promote_at(
         hashes,
@@ -56,13 +48,14 @@ fn promote_kept(
         requested,
         arrivals,
         connected,
-        BlockSlot(active),
+        active,
         BlockSlot(slot),
     );
     let outcome = recorded.outcome;
+    let active = recorded.active;
     Kept {
         answer: outcome_number(outcome),
-        active: recorded.active.0,
+        active,
     }
 }
 
@@ -78,16 +71,12 @@ fn fresh_kept(
     requested: &mut [u64],
     arrivals: &mut [u64],
     connected: &mut [u8],
-    active: u32,
+    active: BlockSlot,
 ) -> Kept
-    ensures { λ r. ⌜ (r .answer ≡ answerNumber (freshRule (stateOf (tablesOf (now (hashes .entry)) (now (parents .entry)) (now (sequences .entry)) (now (counts .entry)) (now (flags .entry))
-        (now (tips .entry)) (now (tails .entry)) (now (missing .entry)) (now (requested .entry)) (now (arrivals .entry)) (now (connected .entry))) active) .answer))
-        × ((r .active ≡ freshRule (stateOf (tablesOf (now (hashes .entry)) (now (parents .entry)) (now (sequences .entry)) (now (counts .entry)) (now (flags .entry))
-        (now (tips .entry)) (now (tails .entry)) (now (missing .entry)) (now (requested .entry)) (now (arrivals .entry)) (now (connected .entry))) active) .after .activeHead)
-        × (tablesOf (now (hashes .exit)) (now (parents .exit)) (now (sequences .exit)) (now (counts .exit)) (now (flags .exit))
-        (now (tips .exit)) (now (tails .exit)) (now (missing .exit)) (now (requested .exit)) (now (arrivals .exit)) (now (connected .exit))
-        ≡ freshRule (stateOf (tablesOf (now (hashes .entry)) (now (parents .entry)) (now (sequences .entry)) (now (counts .entry)) (now (flags .entry))
-        (now (tips .entry)) (now (tails .entry)) (now (missing .entry)) (now (requested .entry)) (now (arrivals .entry)) (now (connected .entry))) active) .after .tables)) ⌝ }
+    ensures { λ r. ⌜ GivesAndSets (r .answer) (r .active .0)
+        (after hashes parents sequences counts flags tips tails missing requested arrivals connected)
+        (freshRule
+        (stateOf (before hashes parents sequences counts flags tips tails missing requested arrivals connected) (active .0))) ⌝ }
 {
     let recorded = fresh_at(
         hashes,
@@ -101,15 +90,17 @@ fn fresh_kept(
         requested,
         arrivals,
         connected,
-        BlockSlot(active),
+        active,
     );
     let outcome = recorded.outcome;
+    let active = recorded.active;
     Kept {
         answer: outcome_number(outcome),
-        active: recorded.active.0,
+        active,
     }
 }
 
+// Puts the block on the active chain and names it in the record; 0 is done, and a refusal in the upper half changes nothing.
 #[no_mangle]
 pub extern "C" fn station_promote(
     hashes: &[u8],
@@ -123,19 +114,17 @@ pub extern "C" fn station_promote(
     requested: &mut [u64],
     arrivals: &[u64],
     connected: &mut [u8],
-    held: &mut ActiveSlot,
+    held: &mut ActiveHead,
     slot: u32,
 ) -> u64
-    ensures { λ r. ⌜ (r ≡ answerNumber (promoteRule (stateOf (tablesOf (now (hashes .entry)) (now (parents .entry)) (now (sequences .entry)) (now (counts .entry)) (now (flags .entry))
-        (now (tips .entry)) (now (tails .entry)) (now (missing .entry)) (now (requested .entry)) (now (arrivals .entry)) (now (connected .entry))) (now (held .entry) .slot)) slot .answer))
-        × ((now (held .exit) .slot ≡ promoteRule (stateOf (tablesOf (now (hashes .entry)) (now (parents .entry)) (now (sequences .entry)) (now (counts .entry)) (now (flags .entry))
-        (now (tips .entry)) (now (tails .entry)) (now (missing .entry)) (now (requested .entry)) (now (arrivals .entry)) (now (connected .entry))) (now (held .entry) .slot)) slot .after .activeHead)
-        × (tablesOf (now (hashes .entry)) (now (parents .entry)) (now (sequences .entry)) (now (counts .entry)) (now (flags .exit))
-        (now (tips .entry)) (now (tails .exit)) (now (missing .exit)) (now (requested .exit)) (now (arrivals .entry)) (now (connected .exit))
-        ≡ promoteRule (stateOf (tablesOf (now (hashes .entry)) (now (parents .entry)) (now (sequences .entry)) (now (counts .entry)) (now (flags .entry))
-        (now (tips .entry)) (now (tails .entry)) (now (missing .entry)) (now (requested .entry)) (now (arrivals .entry)) (now (connected .entry))) (now (held .entry) .slot)) slot .after .tables)) ⌝ }
+    ensures { λ r. ⌜ GivesAndSets r (now (held .exit) .slot .0)
+        (after hashes parents sequences counts flags tips tails missing requested arrivals connected)
+        (promoteRule
+        (stateOf (before hashes parents sequences counts flags tips tails missing requested arrivals connected)
+        (now (held .entry) .slot .0))
+        slot) ⌝ }
 {
-    let kept = promote_kept(
+    let promoted = promote_kept(
         hashes,
         parents,
         sequences,
@@ -150,10 +139,11 @@ pub extern "C" fn station_promote(
         held.slot,
         slot,
     );
-    held.slot = kept.active;
-    kept.answer
+    held.slot = promoted.active;
+    promoted.answer
 }
 
+// Empties all slots, all heads and the record; 0 is done, and a refusal in the upper half changes nothing.
 #[no_mangle]
 pub extern "C" fn station_fresh(
     hashes: &mut [u8],
@@ -167,18 +157,15 @@ pub extern "C" fn station_fresh(
     requested: &mut [u64],
     arrivals: &mut [u64],
     connected: &mut [u8],
-    held: &mut ActiveSlot,
+    held: &mut ActiveHead,
 ) -> u64
-    ensures { λ r. ⌜ (r ≡ answerNumber (freshRule (stateOf (tablesOf (now (hashes .entry)) (now (parents .entry)) (now (sequences .entry)) (now (counts .entry)) (now (flags .entry))
-        (now (tips .entry)) (now (tails .entry)) (now (missing .entry)) (now (requested .entry)) (now (arrivals .entry)) (now (connected .entry))) (now (held .entry) .slot)) .answer))
-        × ((now (held .exit) .slot ≡ freshRule (stateOf (tablesOf (now (hashes .entry)) (now (parents .entry)) (now (sequences .entry)) (now (counts .entry)) (now (flags .entry))
-        (now (tips .entry)) (now (tails .entry)) (now (missing .entry)) (now (requested .entry)) (now (arrivals .entry)) (now (connected .entry))) (now (held .entry) .slot)) .after .activeHead)
-        × (tablesOf (now (hashes .exit)) (now (parents .exit)) (now (sequences .exit)) (now (counts .exit)) (now (flags .exit))
-        (now (tips .exit)) (now (tails .exit)) (now (missing .exit)) (now (requested .exit)) (now (arrivals .exit)) (now (connected .exit))
-        ≡ freshRule (stateOf (tablesOf (now (hashes .entry)) (now (parents .entry)) (now (sequences .entry)) (now (counts .entry)) (now (flags .entry))
-        (now (tips .entry)) (now (tails .entry)) (now (missing .entry)) (now (requested .entry)) (now (arrivals .entry)) (now (connected .entry))) (now (held .entry) .slot)) .after .tables)) ⌝ }
+    ensures { λ r. ⌜ GivesAndSets r (now (held .exit) .slot .0)
+        (after hashes parents sequences counts flags tips tails missing requested arrivals connected)
+        (freshRule
+        (stateOf (before hashes parents sequences counts flags tips tails missing requested arrivals connected)
+        (now (held .entry) .slot .0))) ⌝ }
 {
-    let kept = fresh_kept(
+    let emptied = fresh_kept(
         hashes,
         parents,
         sequences,
@@ -192,6 +179,6 @@ pub extern "C" fn station_fresh(
         connected,
         held.slot,
     );
-    held.slot = kept.active;
-    kept.answer
+    held.slot = emptied.active;
+    emptied.answer
 }

@@ -1,15 +1,17 @@
 // Timer, and the earliest deadline.
 ghost use mathlib.Core.Path.{_≡_};
-ghost use Rattle.rules.specs.Records.{tablesOf};
+ghost use Rattle.rules.specs.Records.{before, after};
 ghost use Rattle.rules.specs.Calls.{stateOf, timer as timerRule, earliestDeadline};
 ghost use Prim.Native.Nat.{ℕ};
-ghost use Rattle.call_numbers.specs.Numbers.{answerNumber, claimedTo, wantedTo, timeTo, spanFrom};
+ghost use Rattle.call_numbers.specs.Numbers.{spanFrom, Asks, Waits};
 use call_numbers::deadline_number;
 use call_numbers::span_from;
 use call_numbers::timed_number;
 use timer_call::earliest_deadline;
 use timer_call::timer;
 
+// The head to ask for, whose request time becomes now; claimed sequence and missing hash go into the two lists. NONE_REF is none due, and
+// a refusal stands in the upper half: these write nothing. Where `given` is 0 the span is 60 ticks.
 #[no_mangle]
 pub extern "C" fn station_timer(
     hashes: &[u8],
@@ -29,16 +31,11 @@ pub extern "C" fn station_timer(
     claimed: &mut [u32],
     wanted: &mut [u8],
 ) -> u64
-    ensures { λ r. ⌜ ((a : ℕ) → (r ≡ answerNumber (timerRule (stateOf (tablesOf (now (hashes .entry)) (now (parents .entry)) (now (sequences .entry)) (now (counts .entry)) (now (flags .entry))
-        (now (tips .entry)) (now (tails .entry)) (now (missing .entry)) (now (requested .entry)) (now (arrivals .entry)) (now (connected .entry))) a) clock (spanFrom given span) .answer))
-        × ((now (claimed .exit) ≡ claimedTo (timerRule (stateOf (tablesOf (now (hashes .entry)) (now (parents .entry)) (now (sequences .entry)) (now (counts .entry)) (now (flags .entry))
-        (now (tips .entry)) (now (tails .entry)) (now (missing .entry)) (now (requested .entry)) (now (arrivals .entry)) (now (connected .entry))) a) clock (spanFrom given span) .answer) (now (claimed .entry)))
-        × ((now (wanted .exit) ≡ wantedTo (timerRule (stateOf (tablesOf (now (hashes .entry)) (now (parents .entry)) (now (sequences .entry)) (now (counts .entry)) (now (flags .entry))
-        (now (tips .entry)) (now (tails .entry)) (now (missing .entry)) (now (requested .entry)) (now (arrivals .entry)) (now (connected .entry))) a) clock (spanFrom given span) .answer) (now (wanted .entry)))
-        × (tablesOf (now (hashes .entry)) (now (parents .entry)) (now (sequences .entry)) (now (counts .entry)) (now (flags .entry))
-        (now (tips .entry)) (now (tails .entry)) (now (missing .entry)) (now (requested .exit)) (now (arrivals .entry)) (now (connected .entry))
-        ≡ timerRule (stateOf (tablesOf (now (hashes .entry)) (now (parents .entry)) (now (sequences .entry)) (now (counts .entry)) (now (flags .entry))
-        (now (tips .entry)) (now (tails .entry)) (now (missing .entry)) (now (requested .entry)) (now (arrivals .entry)) (now (connected .entry))) a) clock (spanFrom given span) .after .tables)))) ⌝ }
+    ensures { λ r. ⌜ ((activeHead : ℕ) → Asks r claimed wanted
+        (after hashes parents sequences counts flags tips tails missing requested arrivals connected)
+        (timerRule
+        (stateOf (before hashes parents sequences counts flags tips tails missing requested arrivals connected) activeHead)
+        clock (spanFrom given span))) ⌝ }
 {
     let answer = timer(
         hashes,
@@ -60,6 +57,8 @@ pub extern "C" fn station_timer(
     timed_number(timed, hash, claimed, wanted)
 }
 
+// 1, with the least due time of stored heads in the first place of the list; 0 is never, and a refusal stands in the upper half: these
+// write nothing. Where `given` is 0 the span is 60 ticks.
 #[no_mangle]
 pub extern "C" fn station_earliest_deadline(
     hashes: &[u8],
@@ -77,10 +76,11 @@ pub extern "C" fn station_earliest_deadline(
     span: u64,
     time: &mut [u64],
 ) -> u64
-    ensures { λ r. ⌜ ((a : ℕ) → (r ≡ answerNumber (earliestDeadline (stateOf (tablesOf (now (hashes .entry)) (now (parents .entry)) (now (sequences .entry)) (now (counts .entry)) (now (flags .entry))
-        (now (tips .entry)) (now (tails .entry)) (now (missing .entry)) (now (requested .entry)) (now (arrivals .entry)) (now (connected .entry))) a) (spanFrom given span) .answer))
-        × (now (time .exit) ≡ timeTo (earliestDeadline (stateOf (tablesOf (now (hashes .entry)) (now (parents .entry)) (now (sequences .entry)) (now (counts .entry)) (now (flags .entry))
-        (now (tips .entry)) (now (tails .entry)) (now (missing .entry)) (now (requested .entry)) (now (arrivals .entry)) (now (connected .entry))) a) (spanFrom given span) .answer) (now (time .entry)))) ⌝ }
+    ensures { λ r. ⌜ ((activeHead : ℕ) → Waits r time
+        (after hashes parents sequences counts flags tips tails missing requested arrivals connected)
+        (earliestDeadline
+        (stateOf (before hashes parents sequences counts flags tips tails missing requested arrivals connected) activeHead)
+        (spanFrom given span))) ⌝ }
 {
     deadline_number(
         earliest_deadline(

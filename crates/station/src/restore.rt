@@ -1,12 +1,13 @@
 // Restart.
 ghost use mathlib.Core.Path.{_≡_};
-ghost use Rattle.rules.specs.Records.{tablesOf};
+ghost use Rattle.rules.specs.Records.{before, after};
 ghost use Rattle.rules.specs.Calls.{stateOf, restart as restartRule};
-ghost use Rattle.call_numbers.specs.Numbers.{answerNumber};
+ghost use Rattle.call_numbers.specs.Numbers.{Gives};
 use call_numbers::outcome_number;
 use restart_call::restart;
 use rules::BlockSlot;
 
+// Makes counts and heads anew from the blocks; 0 is done, and a refusal in the upper half changes nothing. `active` is the record's slot.
 #[no_mangle]
 pub extern "C" fn station_restart(
     hashes: &mut [u8],
@@ -23,12 +24,11 @@ pub extern "C" fn station_restart(
     active: u32,
     clock: u64,
 ) -> u64
-    ensures { λ r. ⌜ (r ≡ answerNumber (restartRule (stateOf (tablesOf (now (hashes .entry)) (now (parents .entry)) (now (sequences .entry)) (now (counts .entry)) (now (flags .entry))
-        (now (tips .entry)) (now (tails .entry)) (now (missing .entry)) (now (requested .entry)) (now (arrivals .entry)) (now (connected .entry))) active) clock .answer))
-        × (tablesOf (now (hashes .exit)) (now (parents .exit)) (now (sequences .exit)) (now (counts .exit)) (now (flags .exit))
-        (now (tips .exit)) (now (tails .exit)) (now (missing .exit)) (now (requested .exit)) (now (arrivals .exit)) (now (connected .exit))
-        ≡ restartRule (stateOf (tablesOf (now (hashes .entry)) (now (parents .entry)) (now (sequences .entry)) (now (counts .entry)) (now (flags .entry))
-        (now (tips .entry)) (now (tails .entry)) (now (missing .entry)) (now (requested .entry)) (now (arrivals .entry)) (now (connected .entry))) active) clock .after .tables) ⌝ }
+    ensures { λ r. ⌜ Gives r
+        (after hashes parents sequences counts flags tips tails missing requested arrivals connected)
+        (restartRule
+        (stateOf (before hashes parents sequences counts flags tips tails missing requested arrivals connected) active)
+        clock) ⌝ }
 {
     outcome_number(restart(
         hashes,

@@ -1,9 +1,9 @@
 // Admit and remove.
 ghost use mathlib.Core.Path.{_≡_};
-ghost use Rattle.rules.specs.Records.{tablesOf};
+ghost use Rattle.rules.specs.Records.{before, after};
 ghost use Rattle.rules.specs.Calls.{stateOf, admit as admitRule, remove as removeRule};
 ghost use Prim.Native.Nat.{ℕ};
-ghost use Rattle.call_numbers.specs.Numbers.{answerNumber};
+ghost use Rattle.call_numbers.specs.Numbers.{Gives};
 use admit_call::admit;
 use call_numbers::admitted_number;
 use call_numbers::removed_number;
@@ -11,6 +11,7 @@ use remove_call::remove;
 use rules::BlockSlot;
 use rules::Sequence;
 
+// Inserts the block and answers with its slot; a refusal in the upper half changes nothing. `active` is the record's slot.
 #[no_mangle]
 pub extern "C" fn station_admit(
     hashes: &mut [u8],
@@ -30,12 +31,11 @@ pub extern "C" fn station_admit(
     previous: &[u8],
     arrival: u64,
 ) -> u64
-    ensures { λ r. ⌜ (r ≡ answerNumber (admitRule (stateOf (tablesOf (now (hashes .entry)) (now (parents .entry)) (now (sequences .entry)) (now (counts .entry)) (now (flags .entry))
-        (now (tips .entry)) (now (tails .entry)) (now (missing .entry)) (now (requested .entry)) (now (arrivals .entry)) (now (connected .entry))) active) sequence (now (hash .entry)) (now (previous .entry)) arrival .answer))
-        × (tablesOf (now (hashes .exit)) (now (parents .exit)) (now (sequences .exit)) (now (counts .exit)) (now (flags .exit))
-        (now (tips .exit)) (now (tails .exit)) (now (missing .exit)) (now (requested .exit)) (now (arrivals .exit)) (now (connected .exit))
-        ≡ admitRule (stateOf (tablesOf (now (hashes .entry)) (now (parents .entry)) (now (sequences .entry)) (now (counts .entry)) (now (flags .entry))
-        (now (tips .entry)) (now (tails .entry)) (now (missing .entry)) (now (requested .entry)) (now (arrivals .entry)) (now (connected .entry))) active) sequence (now (hash .entry)) (now (previous .entry)) arrival .after .tables) ⌝ }
+    ensures { λ r. ⌜ Gives r
+        (after hashes parents sequences counts flags tips tails missing requested arrivals connected)
+        (admitRule
+        (stateOf (before hashes parents sequences counts flags tips tails missing requested arrivals connected) active)
+        sequence (now (hash .entry)) (now (previous .entry)) arrival) ⌝ }
 {
     admitted_number(admit(
         hashes,
@@ -57,6 +57,7 @@ pub extern "C" fn station_admit(
     ))
 }
 
+// Frees the root's subtree and answers with the number of blocks freed; a refusal in the upper half changes nothing.
 #[no_mangle]
 pub extern "C" fn station_remove(
     hashes: &mut [u8],
@@ -72,12 +73,11 @@ pub extern "C" fn station_remove(
     connected: &mut [u8],
     root: u32,
 ) -> u64
-    ensures { λ r. ⌜ ((a : ℕ) → (r ≡ answerNumber (removeRule (stateOf (tablesOf (now (hashes .entry)) (now (parents .entry)) (now (sequences .entry)) (now (counts .entry)) (now (flags .entry))
-        (now (tips .entry)) (now (tails .entry)) (now (missing .entry)) (now (requested .entry)) (now (arrivals .entry)) (now (connected .entry))) a) root .answer))
-        × (tablesOf (now (hashes .exit)) (now (parents .exit)) (now (sequences .exit)) (now (counts .exit)) (now (flags .exit))
-        (now (tips .exit)) (now (tails .exit)) (now (missing .exit)) (now (requested .exit)) (now (arrivals .exit)) (now (connected .exit))
-        ≡ removeRule (stateOf (tablesOf (now (hashes .entry)) (now (parents .entry)) (now (sequences .entry)) (now (counts .entry)) (now (flags .entry))
-        (now (tips .entry)) (now (tails .entry)) (now (missing .entry)) (now (requested .entry)) (now (arrivals .entry)) (now (connected .entry))) a) root .after .tables)) ⌝ }
+    ensures { λ r. ⌜ ((activeHead : ℕ) → Gives r
+        (after hashes parents sequences counts flags tips tails missing requested arrivals connected)
+        (removeRule
+        (stateOf (before hashes parents sequences counts flags tips tails missing requested arrivals connected) activeHead)
+        root)) ⌝ }
 {
     removed_number(remove(
         hashes,

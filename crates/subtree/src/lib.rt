@@ -83,7 +83,8 @@ fn verdict(
     known: &[u8],
     start: BlockSlot,
 ) -> u8
-    ensures { λ r. ⌜ (Right (now (parents .entry)) (now (sequences .entry)) (root .0) (now (known .entry)) → start .0 < slotsOf (now (sequences .entry))
+    ensures { λ r. ⌜ (Right (now (parents .entry)) (now (sequences .entry)) (root .0) (now (known .entry))
+        → start .0 < slotsOf (now (sequences .entry))
         → reaches (now (parents .entry)) (now (sequences .entry)) (root .0) (slotsOf (now (sequences .entry))) (start .0) ≡ eqb r 1) ⌝ }
 {
     let n = slots(sequences);
@@ -109,7 +110,8 @@ fn remember(
     start: BlockSlot,
     byte: u8,
 )
-    ensures { λ _. ⌜ (Right (now (parents .entry)) (now (sequences .entry)) (root .0) (now (known .entry)) → start .0 < slotsOf (now (sequences .entry))
+    ensures { λ _. ⌜ (Right (now (parents .entry)) (now (sequences .entry)) (root .0) (now (known .entry))
+        → start .0 < slotsOf (now (sequences .entry))
         → reaches (now (parents .entry)) (now (sequences .entry)) (root .0) (slotsOf (now (sequences .entry))) (start .0) ≡ eqb byte 1
         → Right (now (parents .entry)) (now (sequences .entry)) (root .0) (now (known .exit))) ⌝ }
 {
@@ -134,7 +136,8 @@ fn is_under(
     known: &mut [u8],
     slot: BlockSlot,
 ) -> bool
-    ensures { λ r. ⌜ (Right (now (parents .entry)) (now (sequences .entry)) (root .0) (now (known .entry)) → slot .0 < slotsOf (now (sequences .entry))
+    ensures { λ r. ⌜ (Right (now (parents .entry)) (now (sequences .entry)) (root .0) (now (known .entry))
+        → slot .0 < slotsOf (now (sequences .entry))
         → (r ≡ inSubtree (now (parents .entry)) (now (sequences .entry)) (root .0) (slot .0))
         × Right (now (parents .entry)) (now (sequences .entry)) (root .0) (now (known .exit))) ⌝ }
 {
@@ -188,6 +191,7 @@ pub fn mark_subtree(parents: &[u32], sequences: &[u32], root: BlockSlot, out: &m
     mark_known(parents, sequences, root, &mut known, out)
 }
 
+// Whether bit 0 of the flags is set in a listed slot, be it occupied or not.
 pub fn any_active(flags: &[u8], listed: &[u32]) -> bool
     ensures { λ r. ⌜ r ≡ anyActive (now (flags .entry)) (now (listed .entry)) ⌝ }
 {

@@ -1,6 +1,6 @@
 // Admit's added step: heads whose tail has got a parent are worked out again.
 ghost use mathlib.Core.Path.{_≡_};
-ghost use Rattle.rules.specs.Records.{blocksOf, headsOf, tablesOf};
+ghost use Rattle.rules.specs.Records.{blocksBefore, headsBefore, headsAfter, before, after};
 ghost use Rattle.rules.specs.Admission.{outgrown, refreshOutgrown, refreshTails};
 use all_caches::refresh_head;
 use blocks::is_occupied;
@@ -11,20 +11,15 @@ use rules::BlockSlot;
 use rules::HeadSlot;
 
 fn has_outgrown(
-    hashes: &[u8],
     parents: &[u32],
     sequences: &[u32],
-    counts: &[u8],
-    flags: &[u8],
     tips: &[u32],
     tails: &[u32],
-    missing: &[u8],
-    requested: &[u64],
-    arrivals: &[u64],
     connected: &[u8],
     head: HeadSlot,
 ) -> bool
-    ensures { λ r. ⌜ r ≡ outgrown (blocksOf (now (hashes .entry)) (now (parents .entry)) (now (sequences .entry)) (now (counts .entry)) (now (flags .entry))) (headsOf (now (tips .entry)) (now (tails .entry)) (now (missing .entry)) (now (requested .entry)) (now (arrivals .entry)) (now (connected .entry))) (head .0) ⌝ }
+    ensures { λ r. ⌜ r ≡ outgrown (now (parents .entry)) (now (sequences .entry)) (now (tips .entry)) (now (tails .entry))
+        (now (connected .entry)) (head .0) ⌝ }
 {
     if !is_stored(tips, connected, head) {
         return false;
@@ -50,23 +45,11 @@ fn refresh_outgrown(
     connected: &mut [u8],
     head: HeadSlot,
 )
-    ensures { λ _. ⌜ headsOf (now (tips .entry)) (now (tails .exit)) (now (missing .exit)) (now (requested .exit)) (now (arrivals .entry)) (now (connected .exit))
-        ≡ refreshOutgrown (blocksOf (now (hashes .entry)) (now (parents .entry)) (now (sequences .entry)) (now (counts .entry)) (now (flags .entry))) (head .0) (headsOf (now (tips .entry)) (now (tails .entry)) (now (missing .entry)) (now (requested .entry)) (now (arrivals .entry)) (now (connected .entry))) ⌝ }
+    ensures { λ _. ⌜ headsAfter tips tails missing requested arrivals connected
+        ≡ refreshOutgrown (blocksBefore hashes parents sequences counts flags) (head .0)
+        (headsBefore tips tails missing requested arrivals connected) ⌝ }
 {
-    if has_outgrown(
-        hashes,
-        parents,
-        sequences,
-        counts,
-        flags,
-        tips,
-        tails,
-        missing,
-        requested,
-        arrivals,
-        connected,
-        head,
-    ) {
+    if has_outgrown(parents, sequences, tips, tails, connected, head) {
         let tip = BlockSlot(word_at(tips, head.0));
         refresh_head(
             parents,
@@ -82,6 +65,7 @@ fn refresh_outgrown(
     }
 }
 
+// In slot order, for each stored head whose cached tail is occupied and now has a parent, the lowest head with its tip is refreshed.
 pub fn refresh_tails(
     hashes: &[u8],
     parents: &[u32],
@@ -95,10 +79,8 @@ pub fn refresh_tails(
     arrivals: &[u64],
     connected: &mut [u8],
 )
-    ensures { λ _. ⌜ tablesOf (now (hashes .entry)) (now (parents .entry)) (now (sequences .entry)) (now (counts .entry)) (now (flags .entry))
-        (now (tips .entry)) (now (tails .exit)) (now (missing .exit)) (now (requested .exit)) (now (arrivals .entry)) (now (connected .exit))
-        ≡ refreshTails (tablesOf (now (hashes .entry)) (now (parents .entry)) (now (sequences .entry)) (now (counts .entry)) (now (flags .entry))
-        (now (tips .entry)) (now (tails .entry)) (now (missing .entry)) (now (requested .entry)) (now (arrivals .entry)) (now (connected .entry))) ⌝ }
+    ensures { λ _. ⌜ after hashes parents sequences counts flags tips tails missing requested arrivals connected
+        ≡ refreshTails (before hashes parents sequences counts flags tips tails missing requested arrivals connected) ⌝ }
 {
     let m = slots(tips);
     let mut k: u32 = 0;

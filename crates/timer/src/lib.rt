@@ -21,6 +21,7 @@ use rules::HeadSlot;
 use rules::Recovery;
 use rules::Sequence;
 
+// When a head is due: at 0 if its request time is 0, else at time + retry, held at the 64-bit maximum.
 pub fn head_eligible_at(requested: u64, retry: u64) -> u64
     ensures { λ r. ⌜ r ≡ due requested retry ⌝ }
 {
@@ -44,7 +45,9 @@ fn may_ask(
     time: u64,
     head: HeadSlot,
 ) -> bool
-    ensures { λ r. ⌜ r ≡ (stored (now (tips .entry)) (now (connected .entry)) (head .0) && leb (due time retry) clock && occupied (now (sequences .entry)) (tipAt (now (tips .entry)) (head .0))) ⌝ }
+    ensures { λ r. ⌜ r
+        ≡ (stored (now (tips .entry)) (now (connected .entry)) (head .0) && leb (due time retry) clock && occupied
+        (now (sequences .entry)) (tipAt (now (tips .entry)) (head .0))) ⌝ }
 {
     if !is_stored(tips, connected, head) {
         return false;
@@ -74,7 +77,10 @@ fn asks_first(
     head: HeadSlot,
     time: u64,
 ) -> bool
-    ensures { λ r. ⌜ r ≡ (if any then ltb time least || (eqb time least && blockBefore (now (hashes .entry)) (now (sequences .entry)) (tipAt (now (tips .entry)) (head .0)) (tipAt (now (tips .entry)) (best .0))) else true) ⌝ }
+    ensures { λ r. ⌜ r
+        ≡ (if any then ltb time least ||
+        (eqb time least && blockBefore (now (hashes .entry)) (now (sequences .entry)) (tipAt (now (tips .entry)) (head .0))
+        (tipAt (now (tips .entry)) (best .0))) else true) ⌝ }
 {
     if !any {
         return true;
@@ -99,7 +105,9 @@ fn chosen(
     clock: u64,
     retry: u64,
 ) -> FoundHead
-    ensures { λ r. ⌜ headFound r ≡ chosenRule (now (hashes .entry)) (now (sequences .entry)) (now (tips .entry)) (now (requested .entry)) (now (connected .entry)) clock retry ⌝ }
+    ensures { λ r. ⌜ headFound r
+        ≡ chosenRule (now (hashes .entry)) (now (sequences .entry)) (now (tips .entry)) (now (requested .entry)) (now (connected .entry))
+        clock retry ⌝ }
 {
     let m = slots(tips);
     let mut any = false;
@@ -154,6 +162,8 @@ fn ask_at(sequences: &[u32], tails: &[u32], head: HeadSlot) -> Recovery
     Recovery::Ask(head, claimed(Sequence(word_at(sequences, tail.0))))
 }
 
+// Of the stored heads due by now that of least request time, then tip sequence, tip hash, head slot; one with an empty tip is passed
+// over. It claims its tail's sequence minus 1, not below 0; if its tail is empty, none is due.
 pub fn select_parent_recovery(
     hashes: &[u8],
     sequences: &[u32],
@@ -164,7 +174,9 @@ pub fn select_parent_recovery(
     clock: u64,
     retry: u64,
 ) -> Recovery
-    ensures { λ r. ⌜ askChosen r ≡ recovery (now (hashes .entry)) (now (sequences .entry)) (now (tips .entry)) (now (tails .entry)) (now (requested .entry)) (now (connected .entry)) clock retry ⌝ }
+    ensures { λ r. ⌜ askChosen r
+        ≡ recovery (now (hashes .entry)) (now (sequences .entry)) (now (tips .entry)) (now (tails .entry)) (now (requested .entry))
+        (now (connected .entry)) clock retry ⌝ }
 {
     let found = chosen(hashes, sequences, tips, requested, connected, clock, retry);
     let FoundHead::At(head) = found else {
@@ -173,6 +185,7 @@ pub fn select_parent_recovery(
     ask_at(sequences, tails, head)
 }
 
+// The head's request time becomes now; an empty head is written too, and out of range nothing changes.
 pub fn mark_requested(requested: &mut [u64], head: HeadSlot, clock: u64)
     ensures { λ _. ⌜ now (requested .exit) ≡ markRequested (now (requested .entry)) (head .0) clock ⌝ }
 {
@@ -190,6 +203,7 @@ fn is_sooner(any: bool, least: u64, time: u64) -> bool
     true
 }
 
+// The least due time of stored heads, or never where none is stored.
 pub fn earliest_recovery_deadline(
     tips: &[u32],
     requested: &[u64],

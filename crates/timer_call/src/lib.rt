@@ -2,10 +2,10 @@
 ghost use mathlib.Core.Path.{_≡_};
 ghost use Prim.Native.Nat.{ℕ};
 ghost use Rattle.rules.specs.Hashes.{zeroHash};
-ghost use Rattle.rules.specs.Records.{tablesOf};
+ghost use Rattle.rules.specs.Records.{before, after};
 ghost use Rattle.rules.specs.Timer.{spanOr};
 ghost use Rattle.rules.specs.Answers.{spanGiven, timerSaid, hashAsked, deadlineSaid};
-ghost use Rattle.rules.specs.Calls.{stateOf, timer as timerRule, earliestDeadline};
+ghost use Rattle.rules.specs.Calls.{stateOf, timer as timerRule, earliestDeadline, Does};
 use cells::hash_at;
 use rules::Deadline;
 use rules::DeadlineAnswer;
@@ -31,7 +31,7 @@ fn ticks(span: Span) -> u64
 }
 
 fn nothing(timed: Timed) -> TimerAnswer
-    ensures { λ r. ⌜ (r .timed ≡ timed) × (r .missing ≡ zeroHash) ⌝ }
+    ensures { λ r. ⌜ r ≡ record { timed = timed; missing = zeroHash } ⌝ }
 {
     TimerAnswer {
         timed,
@@ -39,6 +39,7 @@ fn nothing(timed: Timed) -> TimerAnswer
     }
 }
 
+// A request for the chosen head, whose request time becomes now; none due and a refusal change nothing. An unset span is 60 ticks.
 pub fn timer(
     hashes: &[u8],
     parents: &[u32],
@@ -54,14 +55,12 @@ pub fn timer(
     clock: u64,
     span: Span,
 ) -> TimerAnswer
-    ensures { λ r. ⌜ ((a : ℕ) → (timerSaid r ≡ timerRule (stateOf (tablesOf (now (hashes .entry)) (now (parents .entry)) (now (sequences .entry)) (now (counts .entry)) (now (flags .entry))
-        (now (tips .entry)) (now (tails .entry)) (now (missing .entry)) (now (requested .entry)) (now (arrivals .entry)) (now (connected .entry))) a) clock (spanGiven span) .answer)
-        × ((r .missing ≡ hashAsked (timerRule (stateOf (tablesOf (now (hashes .entry)) (now (parents .entry)) (now (sequences .entry)) (now (counts .entry)) (now (flags .entry))
-        (now (tips .entry)) (now (tails .entry)) (now (missing .entry)) (now (requested .entry)) (now (arrivals .entry)) (now (connected .entry))) a) clock (spanGiven span) .answer))
-        × (tablesOf (now (hashes .entry)) (now (parents .entry)) (now (sequences .entry)) (now (counts .entry)) (now (flags .entry))
-        (now (tips .entry)) (now (tails .entry)) (now (missing .entry)) (now (requested .exit)) (now (arrivals .entry)) (now (connected .entry))
-        ≡ timerRule (stateOf (tablesOf (now (hashes .entry)) (now (parents .entry)) (now (sequences .entry)) (now (counts .entry)) (now (flags .entry))
-        (now (tips .entry)) (now (tails .entry)) (now (missing .entry)) (now (requested .entry)) (now (arrivals .entry)) (now (connected .entry))) a) clock (spanGiven span) .after .tables))) ⌝ }
+    ensures { λ r. ⌜ ((activeHead : ℕ) → Does (timerSaid r)
+        (after hashes parents sequences counts flags tips tails missing requested arrivals connected)
+        (timerRule
+        (stateOf (before hashes parents sequences counts flags tips tails missing requested arrivals connected) activeHead)
+        clock (spanGiven span)))
+        × (r .missing ≡ hashAsked (timerSaid r)) ⌝ }
 {
     if !is_shaped(
         hashes,
@@ -100,6 +99,7 @@ pub fn timer(
     }
 }
 
+// The least due time of stored heads, or never where none is stored; an unset span is 60 ticks. Nothing is written.
 pub fn earliest_deadline(
     hashes: &[u8],
     parents: &[u32],
@@ -114,8 +114,11 @@ pub fn earliest_deadline(
     connected: &[u8],
     span: Span,
 ) -> DeadlineAnswer
-    ensures { λ r. ⌜ ((a : ℕ) → deadlineSaid r ≡ earliestDeadline (stateOf (tablesOf (now (hashes .entry)) (now (parents .entry)) (now (sequences .entry)) (now (counts .entry)) (now (flags .entry))
-        (now (tips .entry)) (now (tails .entry)) (now (missing .entry)) (now (requested .entry)) (now (arrivals .entry)) (now (connected .entry))) a) (spanGiven span) .answer) ⌝ }
+    ensures { λ r. ⌜ ((activeHead : ℕ) → Does (deadlineSaid r)
+        (after hashes parents sequences counts flags tips tails missing requested arrivals connected)
+        (earliestDeadline
+        (stateOf (before hashes parents sequences counts flags tips tails missing requested arrivals connected) activeHead)
+        (spanGiven span))) ⌝ }
 {
     if !is_shaped(
         hashes,

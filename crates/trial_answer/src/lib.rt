@@ -1,5 +1,5 @@
 // A line's call on the tables that it is given, and the line that it prints, in a lent buffer from a place on.
-ghost use Rattle.rules.specs.Records.{tablesOf};
+ghost use Rattle.rules.specs.Records.{before, after};
 ghost use Rattle.rules.specs.Calls.{stateOf};
 ghost use Rattle.trial_calls.specs.Calling.{Tells};
 use rules::BlockSlot;
@@ -13,6 +13,7 @@ use trial_calls::tell_timer;
 use trial_calls::tell_unread;
 use trial_lines::Line;
 
+// Does the line's call and prints its answer; an unread line calls nothing and prints `?`.
 pub fn answer(
     hashes: &mut [u8],
     parents: &mut [u32],
@@ -30,10 +31,11 @@ pub fn answer(
     out: &mut [u8],
     at: usize,
 ) -> Told
-    ensures { λ r. ⌜ Tells (stateOf (tablesOf (now (hashes .entry)) (now (parents .entry)) (now (sequences .entry)) (now (counts .entry)) (now (flags .entry))
-        (now (tips .entry)) (now (tails .entry)) (now (missing .entry)) (now (requested .entry)) (now (arrivals .entry)) (now (connected .entry))) (active .0)) line (now (out .entry)) at
-        (stateOf (tablesOf (now (hashes .exit)) (now (parents .exit)) (now (sequences .exit)) (now (counts .exit)) (now (flags .exit))
-        (now (tips .exit)) (now (tails .exit)) (now (missing .exit)) (now (requested .exit)) (now (arrivals .exit)) (now (connected .exit))) (r .active .0)) (r .renewed) (now (out .exit)) (r .at) ⌝ }
+    ensures { λ r. ⌜ Tells
+        (stateOf (before hashes parents sequences counts flags tips tails missing requested arrivals connected) (active .0)) line
+        (now (out .entry)) at
+        (stateOf (after hashes parents sequences counts flags tips tails missing requested arrivals connected) (r .active .0))
+        (r .renewed) (now (out .exit)) (r .at) ⌝ }
 {
     match line {
         Line::Fresh(_, _) => tell_fresh(

@@ -24,10 +24,6 @@ use Rattle.trial_lines.specs.declared.Line.the-variants.{Fresh, Admit, Promote,
 use Rattle.trial_lines.proofs.Places.{Put}
 use Rattle.trial_calls.specs.Calling.{called, doneSaid, lineSaid, isRefused, renews, Tells}
 
--- a place that is searched for
-abbrev pub the : (A : Type 0) → A → A
-the A a = a
-
 -- ---- the record is kept
 
 pub admit-keeps : (s : State) (sequence : ℕ) (hash previous : List ℕ) (arrival : ℕ) → admit s sequence hash previous arrival .after .activeHead ≡ s .activeHead

@@ -3,7 +3,7 @@
 ghost use mathlib.Core.Path.{_≡_};
 ghost use mathlib.Core.Bool.{not};
 ghost use Prim.Native.Nat.{ℕ};
-ghost use Rattle.rules.specs.Records.{Tables, tablesOf};
+ghost use Rattle.rules.specs.Records.{Tables, before, after};
 ghost use Rattle.rules.specs.Answers.{outcomeSaid};
 ghost use Rattle.rules.specs.Calls.{stateOf};
 ghost use Rattle.trial_lines.specs.declared.Line.the-variants.{Fresh, Admit, Promote, Remove, Timer, Restart, Unread};
@@ -59,10 +59,11 @@ pub fn tell_fresh(
     out: &mut [u8],
     at: usize,
 ) -> Told
-    ensures { λ r. ⌜ ((n m : ℕ) → Tells (stateOf (tablesOf (now (hashes .entry)) (now (parents .entry)) (now (sequences .entry)) (now (counts .entry)) (now (flags .entry))
-        (now (tips .entry)) (now (tails .entry)) (now (missing .entry)) (now (requested .entry)) (now (arrivals .entry)) (now (connected .entry))) (active .0)) (Fresh n m) (now (out .entry)) at
-        (stateOf (tablesOf (now (hashes .exit)) (now (parents .exit)) (now (sequences .exit)) (now (counts .exit)) (now (flags .exit))
-        (now (tips .exit)) (now (tails .exit)) (now (missing .exit)) (now (requested .exit)) (now (arrivals .exit)) (now (connected .exit))) (r .active .0)) (r .renewed) (now (out .exit)) (r .at)) ⌝ }
+    ensures { λ r. ⌜ ((n m : ℕ)
+        → Tells (stateOf (before hashes parents sequences counts flags tips tails missing requested arrivals connected) (active .0))
+        (Fresh n m) (now (out .entry)) at
+        (stateOf (after hashes parents sequences counts flags tips tails missing requested arrivals connected) (r .active .0))
+        (r .renewed) (now (out .exit)) (r .at)) ⌝ }
 {
     let recorded = fresh_at(
         hashes,
@@ -87,6 +88,7 @@ pub fn tell_fresh(
     }
 }
 
+// Admits a block, each of its two hashes a byte 32 times, and prints the new slot or the refusal.
 pub fn tell_admit(
     hashes: &mut [u8],
     parents: &mut [u32],
@@ -107,10 +109,11 @@ pub fn tell_admit(
     out: &mut [u8],
     at: usize,
 ) -> Told
-    ensures { λ r. ⌜ Tells (stateOf (tablesOf (now (hashes .entry)) (now (parents .entry)) (now (sequences .entry)) (now (counts .entry)) (now (flags .entry))
-        (now (tips .entry)) (now (tails .entry)) (now (missing .entry)) (now (requested .entry)) (now (arrivals .entry)) (now (connected .entry))) (active .0)) (Admit sequence hash previous arrival) (now (out .entry)) at
-        (stateOf (tablesOf (now (hashes .exit)) (now (parents .exit)) (now (sequences .exit)) (now (counts .exit)) (now (flags .exit))
-        (now (tips .exit)) (now (tails .exit)) (now (missing .exit)) (now (requested .exit)) (now (arrivals .exit)) (now (connected .exit))) (r .active .0)) (r .renewed) (now (out .exit)) (r .at) ⌝ }
+    ensures { λ r. ⌜ Tells
+        (stateOf (before hashes parents sequences counts flags tips tails missing requested arrivals connected) (active .0))
+        (Admit sequence hash previous arrival) (now (out .entry)) at
+        (stateOf (after hashes parents sequences counts flags tips tails missing requested arrivals connected) (r .active .0))
+        (r .renewed) (now (out .exit)) (r .at) ⌝ }
 {
     let own = [hash; 32];
     let before = [previous; 32];
@@ -139,6 +142,7 @@ pub fn tell_admit(
     }
 }
 
+// Promotes the block and prints its slot or the refusal; a refusal leaves the record as it was.
 pub fn tell_promote(
     hashes: &[u8],
     parents: &[u32],
@@ -156,10 +160,11 @@ pub fn tell_promote(
     out: &mut [u8],
     at: usize,
 ) -> Told
-    ensures { λ r. ⌜ Tells (stateOf (tablesOf (now (hashes .entry)) (now (parents .entry)) (now (sequences .entry)) (now (counts .entry)) (now (flags .entry))
-        (now (tips .entry)) (now (tails .entry)) (now (missing .entry)) (now (requested .entry)) (now (arrivals .entry)) (now (connected .entry))) (active .0)) (Promote slot) (now (out .entry)) at
-        (stateOf (tablesOf (now (hashes .entry)) (now (parents .entry)) (now (sequences .entry)) (now (counts .entry)) (now (flags .exit))
-        (now (tips .entry)) (now (tails .exit)) (now (missing .exit)) (now (requested .exit)) (now (arrivals .entry)) (now (connected .exit))) (r .active .0)) (r .renewed) (now (out .exit)) (r .at) ⌝ }
+    ensures { λ r. ⌜ Tells
+        (stateOf (before hashes parents sequences counts flags tips tails missing requested arrivals connected) (active .0))
+        (Promote slot) (now (out .entry)) at
+        (stateOf (after hashes parents sequences counts flags tips tails missing requested arrivals connected) (r .active .0))
+        (r .renewed) (now (out .exit)) (r .at) ⌝ }
 {
     let recorded = promote_at(
         hashes,
@@ -185,6 +190,7 @@ pub fn tell_promote(
     }
 }
 
+// Removes the slot's subtree and prints the number of blocks freed or the refusal.
 pub fn tell_remove(
     hashes: &mut [u8],
     parents: &mut [u32],
@@ -202,10 +208,11 @@ pub fn tell_remove(
     out: &mut [u8],
     at: usize,
 ) -> Told
-    ensures { λ r. ⌜ Tells (stateOf (tablesOf (now (hashes .entry)) (now (parents .entry)) (now (sequences .entry)) (now (counts .entry)) (now (flags .entry))
-        (now (tips .entry)) (now (tails .entry)) (now (missing .entry)) (now (requested .entry)) (now (arrivals .entry)) (now (connected .entry))) (active .0)) (Remove slot) (now (out .entry)) at
-        (stateOf (tablesOf (now (hashes .exit)) (now (parents .exit)) (now (sequences .exit)) (now (counts .exit)) (now (flags .exit))
-        (now (tips .exit)) (now (tails .exit)) (now (missing .exit)) (now (requested .exit)) (now (arrivals .exit)) (now (connected .exit))) (r .active .0)) (r .renewed) (now (out .exit)) (r .at) ⌝ }
+    ensures { λ r. ⌜ Tells
+        (stateOf (before hashes parents sequences counts flags tips tails missing requested arrivals connected) (active .0))
+        (Remove slot) (now (out .entry)) at
+        (stateOf (after hashes parents sequences counts flags tips tails missing requested arrivals connected) (r .active .0))
+        (r .renewed) (now (out .exit)) (r .at) ⌝ }
 {
     let answer = remove(
         hashes,
@@ -228,6 +235,7 @@ pub fn tell_remove(
     }
 }
 
+// Calls timer with the line's retry span and prints the request, that none is due, or the refusal.
 pub fn tell_timer(
     hashes: &[u8],
     parents: &[u32],
@@ -246,10 +254,11 @@ pub fn tell_timer(
     out: &mut [u8],
     at: usize,
 ) -> Told
-    ensures { λ r. ⌜ Tells (stateOf (tablesOf (now (hashes .entry)) (now (parents .entry)) (now (sequences .entry)) (now (counts .entry)) (now (flags .entry))
-        (now (tips .entry)) (now (tails .entry)) (now (missing .entry)) (now (requested .entry)) (now (arrivals .entry)) (now (connected .entry))) (active .0)) (Timer clock retry) (now (out .entry)) at
-        (stateOf (tablesOf (now (hashes .entry)) (now (parents .entry)) (now (sequences .entry)) (now (counts .entry)) (now (flags .entry))
-        (now (tips .entry)) (now (tails .entry)) (now (missing .entry)) (now (requested .exit)) (now (arrivals .entry)) (now (connected .entry))) (r .active .0)) (r .renewed) (now (out .exit)) (r .at) ⌝ }
+    ensures { λ r. ⌜ Tells
+        (stateOf (before hashes parents sequences counts flags tips tails missing requested arrivals connected) (active .0))
+        (Timer clock retry) (now (out .entry)) at
+        (stateOf (after hashes parents sequences counts flags tips tails missing requested arrivals connected) (r .active .0))
+        (r .renewed) (now (out .exit)) (r .at) ⌝ }
 {
     let answer = timer(
         hashes,
@@ -275,6 +284,7 @@ pub fn tell_timer(
     }
 }
 
+// Restarts with the line's time as the arrival time and prints `R` alone or the refusal.
 pub fn tell_restart(
     hashes: &mut [u8],
     parents: &mut [u32],
@@ -292,10 +302,11 @@ pub fn tell_restart(
     out: &mut [u8],
     at: usize,
 ) -> Told
-    ensures { λ r. ⌜ Tells (stateOf (tablesOf (now (hashes .entry)) (now (parents .entry)) (now (sequences .entry)) (now (counts .entry)) (now (flags .entry))
-        (now (tips .entry)) (now (tails .entry)) (now (missing .entry)) (now (requested .entry)) (now (arrivals .entry)) (now (connected .entry))) (active .0)) (Restart clock) (now (out .entry)) at
-        (stateOf (tablesOf (now (hashes .exit)) (now (parents .exit)) (now (sequences .exit)) (now (counts .exit)) (now (flags .exit))
-        (now (tips .exit)) (now (tails .exit)) (now (missing .exit)) (now (requested .exit)) (now (arrivals .exit)) (now (connected .exit))) (r .active .0)) (r .renewed) (now (out .exit)) (r .at) ⌝ }
+    ensures { λ r. ⌜ Tells
+        (stateOf (before hashes parents sequences counts flags tips tails missing requested arrivals connected) (active .0))
+        (Restart clock) (now (out .entry)) at
+        (stateOf (after hashes parents sequences counts flags tips tails missing requested arrivals connected) (r .active .0))
+        (r .renewed) (now (out .exit)) (r .at) ⌝ }
 {
     let answer = restart(
         hashes,
@@ -319,8 +330,10 @@ pub fn tell_restart(
     }
 }
 
+// An unread line calls nothing and prints `?`.
 pub fn tell_unread(active: BlockSlot, out: &mut [u8], at: usize) -> Told
-    ensures { λ r. ⌜ ((t : Tables) → Tells (stateOf t (active .0)) Unread (now (out .entry)) at (stateOf t (r .active .0)) (r .renewed) (now (out .exit)) (r .at)) ⌝ }
+    ensures { λ r. ⌜ ((t : Tables)
+        → Tells (stateOf t (active .0)) Unread (now (out .entry)) at (stateOf t (r .active .0)) (r .renewed) (now (out .exit)) (r .at)) ⌝ }
 {
     Told {
         active,

@@ -3,7 +3,7 @@ ghost use mathlib.Core.Path.{_≡_};
 ghost use Prim.Native.Nat.{min};
 ghost use lib.ListN.{length, take};
 ghost use lib.Seq.{sets};
-ghost use Rattle.rules.specs.Records.{tablesOf};
+ghost use Rattle.rules.specs.Records.{before, after};
 ghost use Rattle.rules.specs.Calls.{stateOf};
 ghost use Rattle.trial_lines.specs.Writing.{place};
 ghost use Rattle.trial_listing.specs.Listing.{listingOf};
@@ -41,14 +41,13 @@ pub fn answer_front(
     out: &mut [u8],
     at: usize,
 ) -> Told
-    ensures { λ r. ⌜ Tells (stateOf (front n m (tablesOf (now (hashes .entry)) (now (parents .entry)) (now (sequences .entry)) (now (counts .entry)) (now (flags .entry))
-        (now (tips .entry)) (now (tails .entry)) (now (missing .entry)) (now (requested .entry)) (now (arrivals .entry)) (now (connected .entry)))) (active .0)) line (now (out .entry)) at
-        (stateOf (front n m (tablesOf (now (hashes .exit)) (now (parents .exit)) (now (sequences .exit)) (now (counts .exit)) (now (flags .exit))
-        (now (tips .exit)) (now (tails .exit)) (now (missing .exit)) (now (requested .exit)) (now (arrivals .exit)) (now (connected .exit)))) (r .active .0)) (r .renewed) (now (out .exit)) (r .at)
-        × (behind n m (tablesOf (now (hashes .exit)) (now (parents .exit)) (now (sequences .exit)) (now (counts .exit)) (now (flags .exit))
-        (now (tips .exit)) (now (tails .exit)) (now (missing .exit)) (now (requested .exit)) (now (arrivals .exit)) (now (connected .exit)))
-        ≡ behind n m (tablesOf (now (hashes .entry)) (now (parents .entry)) (now (sequences .entry)) (now (counts .entry)) (now (flags .entry))
-        (now (tips .entry)) (now (tails .entry)) (now (missing .entry)) (now (requested .entry)) (now (arrivals .entry)) (now (connected .entry)))) ⌝ }
+    ensures { λ r. ⌜ Tells
+        (stateOf (front n m (before hashes parents sequences counts flags tips tails missing requested arrivals connected))
+        (active .0)) line (now (out .entry)) at
+        (stateOf (front n m (after hashes parents sequences counts flags tips tails missing requested arrivals connected))
+        (r .active .0)) (r .renewed) (now (out .exit)) (r .at)
+        × (behind n m (after hashes parents sequences counts flags tips tails missing requested arrivals connected)
+        ≡ behind n m (before hashes parents sequences counts flags tips tails missing requested arrivals connected)) ⌝ }
 {
     let blocks = n as usize;
     let heads = m as usize;
@@ -82,6 +81,7 @@ pub fn answer_front(
     )
 }
 
+// The listing of the first n block slots and the first m head slots, as much of each array as there is.
 pub fn list_front(
     parents: &[u32],
     sequences: &[u32],
@@ -95,8 +95,17 @@ pub fn list_front(
     out: &mut [u8],
     at: usize,
 ) -> usize
-    ensures { λ r. ⌜ (now (out .exit) ≡ sets (now (out .entry)) at (listingOf (take n (now (parents .entry))) (take n (now (sequences .entry))) (take n (now (counts .entry))) (take n (now (flags .entry))) (take m (now (tips .entry))) (take m (now (tails .entry))) (take m (now (connected .entry)))))
-        × (r ≡ place (length (now (out .entry))) at (length (listingOf (take n (now (parents .entry))) (take n (now (sequences .entry))) (take n (now (counts .entry))) (take n (now (flags .entry))) (take m (now (tips .entry))) (take m (now (tails .entry))) (take m (now (connected .entry)))))) ⌝ }
+    ensures { λ r. ⌜ (now (out .exit)
+        ≡ sets (now (out .entry)) at
+        (listingOf (take n (now (parents .entry))) (take n (now (sequences .entry))) (take n (now (counts .entry)))
+        (take n (now (flags .entry))) (take m (now (tips .entry))) (take m (now (tails .entry)))
+        (take m (now (connected .entry)))))
+        × (r
+        ≡ place (length (now (out .entry))) at
+        (length
+        (listingOf (take n (now (parents .entry))) (take n (now (sequences .entry))) (take n (now (counts .entry)))
+        (take n (now (flags .entry))) (take m (now (tips .entry))) (take m (now (tails .entry)))
+        (take m (now (connected .entry)))))) ⌝ }
 {
     let blocks = n as usize;
     let heads = m as usize;

@@ -29,6 +29,7 @@ pub fn fresh_line(out: &mut [u8], at: usize, answer: Outcome) -> usize
     }
 }
 
+// `A` and the new slot, or the refusal.
 pub fn admit_line(out: &mut [u8], at: usize, answer: Admitted) -> usize
     ensures { λ r. ⌜ (now (out .exit) ≡ sets (now (out .entry)) at (said [] (admittedSaid answer)))
         × (r ≡ place (length (now (out .entry))) at (length (said [] (admittedSaid answer)))) ⌝ }
@@ -39,6 +40,7 @@ pub fn admit_line(out: &mut [u8], at: usize, answer: Admitted) -> usize
     }
 }
 
+// `P` and the slot that was given, or the refusal.
 pub fn promote_line(out: &mut [u8], at: usize, answer: Outcome, slot: BlockSlot) -> usize
     ensures { λ r. ⌜ (now (out .exit) ≡ sets (now (out .entry)) at (said (numberLine 80 (slot .0)) (outcomeSaid answer)))
         × (r ≡ place (length (now (out .entry))) at (length (said (numberLine 80 (slot .0)) (outcomeSaid answer)))) ⌝ }
@@ -49,6 +51,7 @@ pub fn promote_line(out: &mut [u8], at: usize, answer: Outcome, slot: BlockSlot)
     }
 }
 
+// `D` and the number of blocks freed, or the refusal.
 pub fn remove_line(out: &mut [u8], at: usize, answer: Removed) -> usize
     ensures { λ r. ⌜ (now (out .exit) ≡ sets (now (out .entry)) at (said [] (removedSaid answer)))
         × (r ≡ place (length (now (out .entry))) at (length (said [] (removedSaid answer)))) ⌝ }
@@ -71,6 +74,7 @@ pub fn timer_line(out: &mut [u8], at: usize, answer: Timed, missing: [u8; 32]) -
     }
 }
 
+// `R` alone, or the refusal.
 pub fn restart_line(out: &mut [u8], at: usize, answer: Outcome) -> usize
     ensures { λ r. ⌜ (now (out .exit) ≡ sets (now (out .entry)) at (said (letterLine 82) (outcomeSaid answer)))
         × (r ≡ place (length (now (out .entry))) at (length (said (letterLine 82) (outcomeSaid answer)))) ⌝ }

@@ -2,6 +2,7 @@
 ghost use mathlib.Core.Path.{_≡_};
 ghost use Rattle.trial_lines.specs.Reading.{fieldLength, first as firstRule, rest as restRule, letter as letterRule};
 
+// How many bytes stand before the first space; all where there is none.
 pub fn field_length(line: &[u8]) -> usize
     ensures { λ r. ⌜ r ≡ fieldLength (now (line .entry)) ⌝ }
 {
@@ -15,6 +16,7 @@ pub fn field_length(line: &[u8]) -> usize
     i
 }
 
+// The bytes before the first space; all where there is none.
 pub fn first<'a>(line: &'a [u8]) -> &'a [u8]
     ensures { λ r. ⌜ now r ≡ firstRule (now (line .entry)) ⌝ }
 {
@@ -25,6 +27,7 @@ pub fn first<'a>(line: &'a [u8]) -> &'a [u8]
     &line[0..0]
 }
 
+// What follows the first space; nothing where there is none.
 pub fn rest<'a>(line: &'a [u8]) -> &'a [u8]
     ensures { λ r. ⌜ now r ≡ restRule (now (line .entry)) ⌝ }
 {

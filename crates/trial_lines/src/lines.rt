@@ -50,6 +50,7 @@ pub fn request_line(out: &mut [u8], at: usize, head: HeadSlot, claimed: Sequence
     put(out, e, b'\n')
 }
 
+// A timer's answer when none is due: `T -`.
 pub fn none_due_line(out: &mut [u8], at: usize) -> usize
     ensures { λ r. ⌜ (now (out .exit) ≡ sets (now (out .entry)) at noneDueLine)
         × (r ≡ place (length (now (out .entry))) at (length noneDueLine)) ⌝ }
@@ -60,6 +61,7 @@ pub fn none_due_line(out: &mut [u8], at: usize) -> usize
     put(out, c, b'\n')
 }
 
+// A block: `B`, slot, sequence, parent or `-`, count, and 1 for active or 0.
 pub fn block_line(
     out: &mut [u8],
     at: usize,
@@ -82,6 +84,7 @@ pub fn block_line(
     put(out, g, b'\n')
 }
 
+// A head: `H`, slot, tip, `C` for connected or `S` for stored, and anchor; `-` is none.
 pub fn head_line(
     out: &mut [u8],
     at: usize,

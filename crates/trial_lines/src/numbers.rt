@@ -37,6 +37,7 @@ fn fits(n: u64, digit: u64, most: u64) -> bool
     digit <= most - n * 10
 }
 
+// One decimal digit or more, of a value no greater than the most; anything else is unread.
 pub fn read_number(bytes: &[u8], most: u64) -> Time
     ensures { λ r. ⌜ timeRead r ≡ number most (now (bytes .entry)) ⌝ }
 {
@@ -60,12 +61,14 @@ pub fn read_number(bytes: &[u8], most: u64) -> Time
     Time::Value(n)
 }
 
+// A decimal number of at most 64 bits; anything else is unread.
 pub fn read_time(bytes: &[u8]) -> Time
     ensures { λ r. ⌜ timeRead r ≡ number timeMost (now (bytes .entry)) ⌝ }
 {
     read_number(bytes, u64::MAX)
 }
 
+// A decimal number of at most 32 bits; anything else is unread.
 pub fn read_word(bytes: &[u8]) -> Word
     ensures { λ r. ⌜ wordRead r ≡ number wordMost (now (bytes .entry)) ⌝ }
 {
@@ -90,6 +93,7 @@ fn hex_digit(byte: u8) -> Byte
     Byte::Value(byte - 87)
 }
 
+// The byte that two lower-case hexadecimal digits give; anything else is unread.
 pub fn read_hash(bytes: &[u8]) -> Byte
     ensures { λ r. ⌜ byteRead r ≡ hashByte (now (bytes .entry)) ⌝ }
 {

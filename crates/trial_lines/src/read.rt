@@ -85,6 +85,7 @@ fn read_restart(fields: &[u8]) -> Line
     }
 }
 
+// What the line asks for: N, A, P, D, T or R with its fields; anything else is unread.
 pub fn read_line(line: &[u8]) -> Line
     ensures { λ r. ⌜ r ≡ parse (now (line .entry)) ⌝ }
 {

@@ -8,6 +8,7 @@ ghost use lib.Seq.{sets};
 ghost use Rattle.trial_lines.specs.Writing.{place, digit as digitRule, digitsIn, digits, hexChar, hex, field, reference};
 use rules::BlockSlot;
 
+// One byte.
 pub fn put(out: &mut [u8], at: usize, byte: u8) -> usize
     ensures { λ r. ⌜ (now (out .exit) ≡ sets (now (out .entry)) at (byte ∷ []))
         × (r ≡ place (length (now (out .entry))) at 1) ⌝ }
@@ -40,6 +41,7 @@ fn put_digits(out: &mut [u8], at: usize, n: u64, places: u32) -> usize
     put(out, next, digit(n))
 }
 
+// A number in decimal digits, without leading zeros.
 pub fn put_number(out: &mut [u8], at: usize, n: u64) -> usize
     ensures { λ r. ⌜ (now (out .exit) ≡ sets (now (out .entry)) at (digits n))
         × (r ≡ place (length (now (out .entry))) at (length (digits n))) ⌝ }
@@ -54,6 +56,7 @@ fn hex_char(n: u8) -> u8
     if d < 10 { 48 + d } else { 87 + d }
 }
 
+// A byte as two lower-case hexadecimal digits.
 pub fn put_hex(out: &mut [u8], at: usize, byte: u8) -> usize
     ensures { λ r. ⌜ (now (out .exit) ≡ sets (now (out .entry)) at (hex byte))
         × (r ≡ place (length (now (out .entry))) at (length (hex byte))) ⌝ }

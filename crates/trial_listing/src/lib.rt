@@ -27,8 +27,13 @@ fn show_block(
     at: usize,
     slot: BlockSlot,
 ) -> usize
-    ensures { λ r. ⌜ (now (out .exit) ≡ sets (now (out .entry)) at (blockShown (now (parents .entry)) (now (sequences .entry)) (now (counts .entry)) (now (flags .entry)) (slot .0)))
-        × (r ≡ place (length (now (out .entry))) at (length (blockShown (now (parents .entry)) (now (sequences .entry)) (now (counts .entry)) (now (flags .entry)) (slot .0)))) ⌝ }
+    ensures { λ r. ⌜ (now (out .exit)
+        ≡ sets (now (out .entry)) at
+        (blockShown (now (parents .entry)) (now (sequences .entry)) (now (counts .entry)) (now (flags .entry)) (slot .0)))
+        × (r
+        ≡ place (length (now (out .entry))) at
+        (length (blockShown (now (parents .entry)) (now (sequences .entry)) (now (counts .entry)) (now (flags .entry))
+        (slot .0)))) ⌝ }
 {
     if is_occupied(sequences, slot) {
         return block_line(
@@ -52,8 +57,12 @@ fn show_blocks(
     out: &mut [u8],
     at: usize,
 ) -> usize
-    ensures { λ r. ⌜ (now (out .exit) ≡ sets (now (out .entry)) at (blocksShown (now (parents .entry)) (now (sequences .entry)) (now (counts .entry)) (now (flags .entry))))
-        × (r ≡ place (length (now (out .entry))) at (length (blocksShown (now (parents .entry)) (now (sequences .entry)) (now (counts .entry)) (now (flags .entry))))) ⌝ }
+    ensures { λ r. ⌜ (now (out .exit)
+        ≡ sets (now (out .entry)) at
+        (blocksShown (now (parents .entry)) (now (sequences .entry)) (now (counts .entry)) (now (flags .entry))))
+        × (r
+        ≡ place (length (now (out .entry))) at
+        (length (blocksShown (now (parents .entry)) (now (sequences .entry)) (now (counts .entry)) (now (flags .entry))))) ⌝ }
 {
     let n = slots(sequences);
     let mut next = at;
@@ -73,8 +82,11 @@ fn show_head(
     at: usize,
     head: HeadSlot,
 ) -> usize
-    ensures { λ r. ⌜ (now (out .exit) ≡ sets (now (out .entry)) at (headShown (now (tips .entry)) (now (tails .entry)) (now (connected .entry)) (head .0)))
-        × (r ≡ place (length (now (out .entry))) at (length (headShown (now (tips .entry)) (now (tails .entry)) (now (connected .entry)) (head .0)))) ⌝ }
+    ensures { λ r. ⌜ (now (out .exit)
+        ≡ sets (now (out .entry)) at (headShown (now (tips .entry)) (now (tails .entry)) (now (connected .entry)) (head .0)))
+        × (r
+        ≡ place (length (now (out .entry))) at
+        (length (headShown (now (tips .entry)) (now (tails .entry)) (now (connected .entry)) (head .0)))) ⌝ }
 {
     if is_used(tips, head) {
         return head_line(
@@ -90,8 +102,11 @@ fn show_head(
 }
 
 fn show_heads(tips: &[u32], tails: &[u32], connected: &[u8], out: &mut [u8], at: usize) -> usize
-    ensures { λ r. ⌜ (now (out .exit) ≡ sets (now (out .entry)) at (headsShown (now (tips .entry)) (now (tails .entry)) (now (connected .entry))))
-        × (r ≡ place (length (now (out .entry))) at (length (headsShown (now (tips .entry)) (now (tails .entry)) (now (connected .entry))))) ⌝ }
+    ensures { λ r. ⌜ (now (out .exit)
+        ≡ sets (now (out .entry)) at (headsShown (now (tips .entry)) (now (tails .entry)) (now (connected .entry))))
+        × (r
+        ≡ place (length (now (out .entry))) at
+        (length (headsShown (now (tips .entry)) (now (tails .entry)) (now (connected .entry))))) ⌝ }
 {
     let m = slots(tips);
     let mut next = at;
@@ -103,6 +118,7 @@ fn show_heads(tips: &[u32], tails: &[u32], connected: &[u8], out: &mut [u8], at:
     next
 }
 
+// A `B` line for each occupied slot, then an `H` line for each head in use, both in slot order.
 pub fn listing(
     parents: &[u32],
     sequences: &[u32],
@@ -114,8 +130,15 @@ pub fn listing(
     out: &mut [u8],
     at: usize,
 ) -> usize
-    ensures { λ r. ⌜ (now (out .exit) ≡ sets (now (out .entry)) at (listingOf (now (parents .entry)) (now (sequences .entry)) (now (counts .entry)) (now (flags .entry)) (now (tips .entry)) (now (tails .entry)) (now (connected .entry))))
-        × (r ≡ place (length (now (out .entry))) at (length (listingOf (now (parents .entry)) (now (sequences .entry)) (now (counts .entry)) (now (flags .entry)) (now (tips .entry)) (now (tails .entry)) (now (connected .entry))))) ⌝ }
+    ensures { λ r. ⌜ (now (out .exit)
+        ≡ sets (now (out .entry)) at
+        (listingOf (now (parents .entry)) (now (sequences .entry)) (now (counts .entry)) (now (flags .entry)) (now (tips .entry))
+        (now (tails .entry)) (now (connected .entry))))
+        × (r
+        ≡ place (length (now (out .entry))) at
+        (length
+        (listingOf (now (parents .entry)) (now (sequences .entry)) (now (counts .entry)) (now (flags .entry))
+        (now (tips .entry)) (now (tails .entry)) (now (connected .entry))))) ⌝ }
 {
     let next = show_blocks(parents, sequences, counts, flags, out, at);
     show_heads(tips, tails, connected, out, next)

@@ -3,9 +3,8 @@ use mathlib.Core.Path.{_≡_, refl}
 use mathlib.Core.Bool.{Bool, true, false}
 use mathlib.Core.List.{List}
 use Prim.Native.Nat.{ℕ}
-use Rattle.rules.specs.Records.{Tables}
-use Rattle.rules.specs.Rebuild.{emptyBlocks, emptyHeads}
-use Rattle.rules.specs.Calls.{blocksFit, headsFit, shaped, freshState, admit, promote, remove, timer, restart, step}
+use Rattle.rules.specs.Records.{Tables, emptyBlocks, emptyHeads, blocksFit, headsFit}
+use Rattle.rules.specs.Calls.{shaped, freshState, admit, promote, remove, timer, restart, step}
 use Rattle.rules.proofs.Splits.{true-not-false}
 use Rattle.trial_lines.specs.Writing.{numberLine}
 use Rattle.trial_lines.specs.declared.Line.{Line}

@@ -8,9 +8,8 @@ use borrow.Author.Tests.{eq-eqb, le-leb, leb-true, leb-false}
 use lib.Dec.{leb}
 use lib.ListN.{length, take, length-take, length-replicate}
 use Rattle.rules.specs.Hashes.{hashLength}
-use Rattle.rules.specs.Records.{Tables}
-use Rattle.rules.specs.Rebuild.{emptyBlocks, emptyHeads}
-use Rattle.rules.specs.Calls.{maxBlocks, minHeads, maxHeads, blocksFit, headsFit, shaped, freshState}
+use Rattle.rules.specs.Records.{Tables, emptyBlocks, emptyHeads, blocksFit, headsFit}
+use Rattle.rules.specs.Calls.{maxBlocks, minHeads, maxHeads, shaped, freshState}
 use Rattle.rules.proofs.Splits.{split, and-true}
 use Rattle.trial_fronts.specs.Fronts.{front}
 

@@ -2,7 +2,7 @@
 use mathlib.Core.Path.{_≡_, refl}
 use Rattle.rules.specs.Common.{lowest, better, best, countBelow, allBelow, inOrder}
 use Rattle.rules.specs.Hashes.{bytesFrom, hashAt, putHash, sameHash, hashLess}
-use Rattle.rules.specs.Records.{slotsOf, occupied, used, active, isConnected, stored, withStatus, putBlock, putHead}
+use Rattle.rules.specs.Records.{slotsOf, occupied, used, active, isConnected, stored, withStatus, putBlock, putHead, emptyBlocks, emptyHeads, blocksFit, headsFit}
 use Rattle.rules.specs.BlockTable.{isBlock, find, nextFree, findParent, childOf, children, childless, reaches, inSubtree, markSubtree, adjusted, adjustCounts, setOccupied, setOnActiveChain, setStatus, delete, insertAt, resolveParent, adjust}
 use Rattle.rules.specs.Anchor.{anchorFrom, locateAnchor}
 use Rattle.rules.specs.Caches.{waitsAt, knowing, missingPart, keep, recompute, slotOfHead, refreshHead, recomputeUsed, recomputeAll}
@@ -10,10 +10,9 @@ use Rattle.rules.specs.Eviction.{blockBefore, mayGo, victim, evictFrom, evict, 
 use Rattle.rules.specs.Admission.{firstEmpty, seatHead, makeRoom, insertHead, moveUp, fork, placeHead, misses, late, joined, link, linkLate, recomputeMissed, linkTails, recomputeMissing, resolveTails, admitted, outgrown, refreshOutgrown, refreshTails}
 use Rattle.rules.specs.Promotion.{activate, promoted}
 use Rattle.rules.specs.Removal.{recount, recountAll, listed, headFreed, takesOver, heir, dropHead, dropHeads, blocksDeleted, freeAll, removed}
-use Rattle.rules.specs.Rebuild.{emptyBlocks, emptyHeads, rebuildAt, rebuildHeads, rebuilt, restarted}
+use Rattle.rules.specs.Rebuild.{rebuildAt, rebuildHeads, rebuilt, restarted}
 use Rattle.rules.specs.Timer.{due, mayAsk, asksBefore, chosen, claimed, askAt, recovery, markRequested}
-use Rattle.rules.specs.Calls.{blocksFit, headsFit, shaped, freshState, admitAt, admit, isNext, promote, holdsActive, remove, asked, timer, restart, step}
-use Rattle.rules.specs.Calls.{fresh}
+use Rattle.rules.specs.Calls.{shaped, freshState, admitAt, admit, isNext, promote, holdsActive, remove, asked, timer, restart, step, fresh}
 use Rattle.trial_lines.specs.Reading.{fieldLength, allDigits, valueFrom, number, hashByte, freshOf, admitOf, promoteOf, removeOf, timerOf, restartOf, parse}
 use Rattle.trial_lines.specs.Writing.{digitsIn, digits, hex, field, reference, letterLine, numberLine, requestLine, noneDueLine, blockLine, headLine}
 use Rattle.trial_listing.specs.Listing.{blockShown, headShown, linesBelow, listingOf}

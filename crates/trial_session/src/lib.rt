@@ -4,7 +4,7 @@ mod lines;
 
 ghost use mathlib.Core.Path.{_≡_};
 ghost use lib.ListN.{take};
-ghost use Rattle.rules.specs.Records.{tablesOf};
+ghost use Rattle.rules.specs.Records.{before, after};
 ghost use Rattle.trial_session.specs.Session.{fed};
 ghost use Rattle.trial_session.specs.Held.{heldOf, newTrial, sessionIn, heldFed, chunkMost, Fills, Closes};
 use lines::end_last;
@@ -27,6 +27,7 @@ pub struct Trial {
 }
 
 impl Trial {
+    // Before anything came: no slots, so that each call is refused its shape, no active head, and no byte of a line.
     pub fn start() -> Trial
         ensures { λ r. ⌜ r ≡ newTrial ⌝ }
     {
@@ -63,12 +64,16 @@ pub fn feed(
     chunk: &[u8],
     out: &mut [u8; ROOM],
 ) -> Printed
-    ensures { λ r. ⌜ Fills (heldFed (heldOf (tablesOf (now (hashes .entry)) (now (parents .entry)) (now (sequences .entry)) (now (counts .entry)) (now (flags .entry))
-        (now (tips .entry)) (now (tails .entry)) (now (missing .entry)) (now (requested .entry)) (now (arrivals .entry)) (now (connected .entry))) (now (line .entry)) trial) (take chunkMost (now (chunk .entry))))
-        (fed (sessionIn (heldOf (tablesOf (now (hashes .entry)) (now (parents .entry)) (now (sequences .entry)) (now (counts .entry)) (now (flags .entry))
-        (now (tips .entry)) (now (tails .entry)) (now (missing .entry)) (now (requested .entry)) (now (arrivals .entry)) (now (connected .entry))) (now (line .entry)) trial)) (take chunkMost (now (chunk .entry)))) (now (out .entry))
-        (heldOf (tablesOf (now (hashes .exit)) (now (parents .exit)) (now (sequences .exit)) (now (counts .exit)) (now (flags .exit))
-        (now (tips .exit)) (now (tails .exit)) (now (missing .exit)) (now (requested .exit)) (now (arrivals .exit)) (now (connected .exit))) (now (line .exit)) (r .trial)) (now (out .exit)) (r .at) ⌝ }
+    ensures { λ r. ⌜ Fills
+        (heldFed
+        (heldOf (before hashes parents sequences counts flags tips tails missing requested arrivals connected) (now (line .entry))
+        trial) (take chunkMost (now (chunk .entry))))
+        (fed
+        (sessionIn
+        (heldOf (before hashes parents sequences counts flags tips tails missing requested arrivals connected)
+        (now (line .entry)) trial)) (take chunkMost (now (chunk .entry)))) (now (out .entry))
+        (heldOf (after hashes parents sequences counts flags tips tails missing requested arrivals connected) (now (line .exit))
+        (r .trial)) (now (out .exit)) (r .at) ⌝ }
 {
     take_bytes(
         hashes,
@@ -107,10 +112,10 @@ pub fn close(
     trial: Trial,
     out: &mut [u8; ROOM],
 ) -> usize
-    ensures { λ r. ⌜ Closes (heldOf (tablesOf (now (hashes .entry)) (now (parents .entry)) (now (sequences .entry)) (now (counts .entry)) (now (flags .entry))
-        (now (tips .entry)) (now (tails .entry)) (now (missing .entry)) (now (requested .entry)) (now (arrivals .entry)) (now (connected .entry))) (now (line .entry)) trial) (now (out .entry))
-        (tablesOf (now (hashes .exit)) (now (parents .exit)) (now (sequences .exit)) (now (counts .exit)) (now (flags .exit))
-        (now (tips .exit)) (now (tails .exit)) (now (missing .exit)) (now (requested .exit)) (now (arrivals .exit)) (now (connected .exit))) (now (out .exit)) r ⌝ }
+    ensures { λ r. ⌜ Closes
+        (heldOf (before hashes parents sequences counts flags tips tails missing requested arrivals connected) (now (line .entry)) trial)
+        (now (out .entry)) (after hashes parents sequences counts flags tips tails missing requested arrivals connected)
+        (now (out .exit)) r ⌝ }
 {
     let last = end_last(
         hashes,

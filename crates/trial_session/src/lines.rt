@@ -5,7 +5,7 @@ ghost use Prim.Native.Nat.{ℕ, _+_, min};
 ghost use lib.Dec.{leb};
 ghost use lib.ListN.{length, take, set};
 ghost use Rattle.rules.specs.Common.{if_then_else_};
-ghost use Rattle.rules.specs.Records.{tablesOf};
+ghost use Rattle.rules.specs.Records.{before, after};
 ghost use Rattle.trial_session.specs.Session.{soFar, tooLong, lineBegun, lineFed, fedByte, fed, lastEnded};
 ghost use Rattle.trial_session.specs.Held.{heldOf, stateIn, sessionIn, asked as askedRule, sizesAfter, heldLine, heldByte, heldFed, heldClosed, Comes};
 use crate::Printed;
@@ -60,7 +60,8 @@ fn after(trial: Trial, sizes: Trial, told: Told) -> Trial
 }
 
 fn line_of(line: &[u8], begun: usize) -> Line
-    ensures { λ r. ⌜ r ≡ lineBegun (if leb begun (length (now (line .entry))) then soFar (take begun (now (line .entry))) else tooLong) ⌝ }
+    ensures { λ r. ⌜ r
+        ≡ lineBegun (if leb begun (length (now (line .entry))) then soFar (take begun (now (line .entry))) else tooLong) ⌝ }
 {
     if line.len() < begun {
         return Line::Unread;
@@ -96,12 +97,16 @@ fn end_line(
     out: &mut [u8],
     at: usize,
 ) -> Printed
-    ensures { λ r. ⌜ ((bytes : List ℕ) → Comes (heldLine (heldOf (tablesOf (now (hashes .entry)) (now (parents .entry)) (now (sequences .entry)) (now (counts .entry)) (now (flags .entry))
-        (now (tips .entry)) (now (tails .entry)) (now (missing .entry)) (now (requested .entry)) (now (arrivals .entry)) (now (connected .entry))) bytes trial) line)
-        (lineFed (stateIn (heldOf (tablesOf (now (hashes .entry)) (now (parents .entry)) (now (sequences .entry)) (now (counts .entry)) (now (flags .entry))
-        (now (tips .entry)) (now (tails .entry)) (now (missing .entry)) (now (requested .entry)) (now (arrivals .entry)) (now (connected .entry))) bytes trial)) line) (now (out .entry)) at
-        (heldOf (tablesOf (now (hashes .exit)) (now (parents .exit)) (now (sequences .exit)) (now (counts .exit)) (now (flags .exit))
-        (now (tips .exit)) (now (tails .exit)) (now (missing .exit)) (now (requested .exit)) (now (arrivals .exit)) (now (connected .exit))) bytes (r .trial)) (now (out .exit)) (r .at)) ⌝ }
+    ensures { λ r. ⌜ ((bytes : List ℕ)
+        → Comes
+        (heldLine (heldOf (before hashes parents sequences counts flags tips tails missing requested arrivals connected) bytes trial)
+        line)
+        (lineFed
+        (stateIn
+        (heldOf (before hashes parents sequences counts flags tips tails missing requested arrivals connected) bytes trial))
+        line) (now (out .entry)) at
+        (heldOf (after hashes parents sequences counts flags tips tails missing requested arrivals connected) bytes (r .trial))
+        (now (out .exit)) (r .at)) ⌝ }
 {
     let sizes = asked(trial, line);
     let told = answer_front(
@@ -149,12 +154,16 @@ fn take_byte(
     out: &mut [u8],
     at: usize,
 ) -> Printed
-    ensures { λ r. ⌜ Comes (heldByte (heldOf (tablesOf (now (hashes .entry)) (now (parents .entry)) (now (sequences .entry)) (now (counts .entry)) (now (flags .entry))
-        (now (tips .entry)) (now (tails .entry)) (now (missing .entry)) (now (requested .entry)) (now (arrivals .entry)) (now (connected .entry))) (now (line .entry)) trial) byte)
-        (fedByte (sessionIn (heldOf (tablesOf (now (hashes .entry)) (now (parents .entry)) (now (sequences .entry)) (now (counts .entry)) (now (flags .entry))
-        (now (tips .entry)) (now (tails .entry)) (now (missing .entry)) (now (requested .entry)) (now (arrivals .entry)) (now (connected .entry))) (now (line .entry)) trial)) byte) (now (out .entry)) at
-        (heldOf (tablesOf (now (hashes .exit)) (now (parents .exit)) (now (sequences .exit)) (now (counts .exit)) (now (flags .exit))
-        (now (tips .exit)) (now (tails .exit)) (now (missing .exit)) (now (requested .exit)) (now (arrivals .exit)) (now (connected .exit))) (now (line .exit)) (r .trial)) (now (out .exit)) (r .at) ⌝ }
+    ensures { λ r. ⌜ Comes
+        (heldByte
+        (heldOf (before hashes parents sequences counts flags tips tails missing requested arrivals connected) (now (line .entry))
+        trial) byte)
+        (fedByte
+        (sessionIn
+        (heldOf (before hashes parents sequences counts flags tips tails missing requested arrivals connected)
+        (now (line .entry)) trial)) byte) (now (out .entry)) at
+        (heldOf (after hashes parents sequences counts flags tips tails missing requested arrivals connected) (now (line .exit))
+        (r .trial)) (now (out .exit)) (r .at) ⌝ }
 {
     if byte == b'\n' {
         let whole = line_of(line, trial.begun);
@@ -212,12 +221,16 @@ pub fn take_bytes(
     most: usize,
     out: &mut [u8],
 ) -> Printed
-    ensures { λ r. ⌜ Comes (heldFed (heldOf (tablesOf (now (hashes .entry)) (now (parents .entry)) (now (sequences .entry)) (now (counts .entry)) (now (flags .entry))
-        (now (tips .entry)) (now (tails .entry)) (now (missing .entry)) (now (requested .entry)) (now (arrivals .entry)) (now (connected .entry))) (now (line .entry)) trial) (take most (now (bytes .entry))))
-        (fed (sessionIn (heldOf (tablesOf (now (hashes .entry)) (now (parents .entry)) (now (sequences .entry)) (now (counts .entry)) (now (flags .entry))
-        (now (tips .entry)) (now (tails .entry)) (now (missing .entry)) (now (requested .entry)) (now (arrivals .entry)) (now (connected .entry))) (now (line .entry)) trial)) (take most (now (bytes .entry)))) (now (out .entry)) 0
-        (heldOf (tablesOf (now (hashes .exit)) (now (parents .exit)) (now (sequences .exit)) (now (counts .exit)) (now (flags .exit))
-        (now (tips .exit)) (now (tails .exit)) (now (missing .exit)) (now (requested .exit)) (now (arrivals .exit)) (now (connected .exit))) (now (line .exit)) (r .trial)) (now (out .exit)) (r .at) ⌝ }
+    ensures { λ r. ⌜ Comes
+        (heldFed
+        (heldOf (before hashes parents sequences counts flags tips tails missing requested arrivals connected) (now (line .entry))
+        trial) (take most (now (bytes .entry))))
+        (fed
+        (sessionIn
+        (heldOf (before hashes parents sequences counts flags tips tails missing requested arrivals connected)
+        (now (line .entry)) trial)) (take most (now (bytes .entry)))) (now (out .entry)) 0
+        (heldOf (after hashes parents sequences counts flags tips tails missing requested arrivals connected) (now (line .exit))
+        (r .trial)) (now (out .exit)) (r .at) ⌝ }
 {
     let n = least(most, bytes.len());
     let mut printed = Printed { trial, at: 0 };
@@ -263,12 +276,16 @@ pub fn end_last(
     trial: Trial,
     out: &mut [u8],
 ) -> Printed
-    ensures { λ r. ⌜ Comes (heldClosed (heldOf (tablesOf (now (hashes .entry)) (now (parents .entry)) (now (sequences .entry)) (now (counts .entry)) (now (flags .entry))
-        (now (tips .entry)) (now (tails .entry)) (now (missing .entry)) (now (requested .entry)) (now (arrivals .entry)) (now (connected .entry))) (now (line .entry)) trial))
-        (lastEnded (sessionIn (heldOf (tablesOf (now (hashes .entry)) (now (parents .entry)) (now (sequences .entry)) (now (counts .entry)) (now (flags .entry))
-        (now (tips .entry)) (now (tails .entry)) (now (missing .entry)) (now (requested .entry)) (now (arrivals .entry)) (now (connected .entry))) (now (line .entry)) trial))) (now (out .entry)) 0
-        (heldOf (tablesOf (now (hashes .exit)) (now (parents .exit)) (now (sequences .exit)) (now (counts .exit)) (now (flags .exit))
-        (now (tips .exit)) (now (tails .exit)) (now (missing .exit)) (now (requested .exit)) (now (arrivals .exit)) (now (connected .exit))) (now (line .entry)) (r .trial)) (now (out .exit)) (r .at) ⌝ }
+    ensures { λ r. ⌜ Comes
+        (heldClosed
+        (heldOf (before hashes parents sequences counts flags tips tails missing requested arrivals connected) (now (line .entry))
+        trial))
+        (lastEnded
+        (sessionIn
+        (heldOf (before hashes parents sequences counts flags tips tails missing requested arrivals connected)
+        (now (line .entry)) trial))) (now (out .entry)) 0
+        (heldOf (after hashes parents sequences counts flags tips tails missing requested arrivals connected) (now (line .entry))
+        (r .trial)) (now (out .exit)) (r .at) ⌝ }
 {
     if trial.begun == 0 {
         return Printed { trial, at: 0 };

@@ -11,11 +11,9 @@ use Rattle.rules.specs.Records.{Blocks, Tables}
 use Rattle.rules.specs.BlockTable.{findParent, insertAt}
 use Rattle.rules.specs.Admission.{admitted as admittedRule, refreshTails}
 use Rattle.rules.specs.Calls.{State, newBlock, slotOrNone, admitAt}
+use Rattle.rules.proofs.Places.{the}
 use Rattle.admit_step.proofs.admit_at.Statement.{statement}
 use Rattle.admit_step.proofs.admit_at.Tie as tie
-
-abbrev the : (A : Type 0) → A → A
-the A a = a
 
 -- each call's place, from the call after it
 abbrev admitted : tie.After-refresh-tails → tie.After-on-block-admitted
@@ -35,7 +33,7 @@ hash-whole s = search needs
 
 -- the steps as one, of any tables
 steps : (s : State) (b : Blocks) (u v : Tables) (i sequence under : ℕ) (own previous : List ℕ) (parent : Option ℕ) (arrival : ℕ)
-    → parent ≡ findParent (s .tables .blocks .hashes) (s .tables .blocks .sequences) previous sequence
+    → parent ≡ findParent (s .tables .blocks .hashes) (s .tables .blocks .sequences) sequence previous
     → under ≡ slotOrNone parent
     → b ≡ insertAt (s .tables .blocks) i (newBlock sequence own under)
     → u ≡ admittedRule (record { blocks = b; heads = s .tables .heads }) i parent previous arrival (s .activeHead)
@@ -123,7 +121,8 @@ returns c =
     let a = admitted t in
     let i = inserted a in
     let s = below i in
-    steps _ _ _ _ _ _ _ _ _ _ _ (s .before .find-parent .ensures) (s .slot-or-none .ensures) (i .insert-at .ensures) (a .on-block-admitted .ensures) (t .refresh-tails .ensures)
+    steps _ _ _ _ _ _ _ _ _ _ _ (s .before .find-parent .ensures) (s .slot-or-none .ensures) (i .insert-at .ensures) (a .on-block-admitted .ensures)
+    (t .refresh-tails .ensures)
 
 pub admit-at-spec : {M : Type 1} → statement M
 admit-at-spec =

@@ -1,17 +1,21 @@
 -- The heads before `k` are done.
 use native.Mathlib.Omega.{arith}
 use Prim.Native.Nat.{_≤_, _-_}
-use mathlib.Core.Path.{_≡_, refl, sym, _∙_}
+use mathlib.Core.Path.{_≡_, sym, _∙_}
 use lib.ListN.{length}
 use Rattle.rules.specs.Common.{inOrder}
-use Rattle.rules.specs.Caches.{cachesOf, recomputeUsed, recomputeAll}
+use Rattle.rules.specs.Records.{cachesOf}
+use Rattle.rules.specs.Caches.{recomputeUsed, recomputeAll}
 use Rattle.rules.proofs.Search.{in-order-none, in-order-next}
 use Rattle.all_caches.proofs.recompute_all_caches.Statement.{statement}
 use Rattle.all_caches.proofs.recompute_all_caches.Tie as tie
 
 abbrev Inv-loop : tie.InvT-loop
 Inv-loop parents sequences flags tips tails₀ missing₀ requested₀ connected₀ m k₀ tails missing requested connected k =
-    (k ≤ m) × (((length tails ≡ length tails₀) × ((length missing ≡ length missing₀) × ((length requested ≡ length requested₀) × (length connected ≡ length connected₀)))) × (cachesOf tails missing requested connected ≡ inOrder (recomputeUsed parents sequences flags tips) k (cachesOf tails₀ missing₀ requested₀ connected₀)))
+    (k ≤ m) × (((length tails ≡ length tails₀) × ((length missing ≡ length missing₀) × ((length requested ≡ length requested₀) ×
+    (length connected ≡ length connected₀)))) ×
+    (cachesOf tails missing requested connected
+    ≡ inOrder (recomputeUsed parents sequences flags tips) k (cachesOf tails₀ missing₀ requested₀ connected₀)))
 
 abbrev μ-loop : tie.MeasureT-loop
 μ-loop parents sequences flags tips tails₀ missing₀ requested₀ connected₀ m k₀ tails missing requested connected k = m - k
@@ -20,7 +24,7 @@ slots-requires : tie.Need-slots-requires Inv-loop μ-loop
 slots-requires c κs = tt
 
 loop-holds : tie.Need-loop-holds Inv-loop μ-loop
-loop-holds c = (omega arith, ((refl, (refl, (refl, refl))), sym (in-order-none _ _)))
+loop-holds c = (omega arith, (omega arith, sym (in-order-none _ _)))
 
 recompute-used-requires : tie.Need-recompute-used-requires Inv-loop μ-loop
 recompute-used-requires c κs = tt
@@ -33,26 +37,26 @@ loop-less c = omega arith
 
 loop-again : tie.Need-loop-again Inv-loop μ-loop
 loop-again c =
-    let u = c .before .before .before .before .before .before .before .before .recompute-used in
-    let l = c .before .before .before .before .before .before .before .before .before .before .before .before .before .before .loop in (
+    let u = let p : tie.After-recompute-used Inv-loop μ-loop = search in p .recompute-used in
+    let l = let p : tie.At-loop Inv-loop μ-loop = search in p .loop in (
       omega arith,
       (
-        (u .kept .1 .1 .1 .1 .0 ∙ l .inv .1 .0 .0, (u .kept .1 .1 .1 .1 .1 .0 ∙ l .inv .1 .0 .1 .0, (u .kept .1 .1 .1 .1 .1 .1 .0 ∙ l .inv .1 .0 .1 .1 .0, u .kept .1 .1 .1 .1 .1 .1 .1 .0 ∙ l .inv .1 .0 .1 .1 .1))),
+        omega (arith, u .kept, l .inv),
         u .ensures ∙ rw (l .inv .1 .1, in-order-next),
       ),
     )
 
 same-length : tie.Need-same-length Inv-loop μ-loop
-same-length c = c .before .loop .inv .1 .0 .0
+same-length c = omega arith
 
 same-length-2 : tie.Need-same-length-2 Inv-loop μ-loop
-same-length-2 c = c .before .loop .inv .1 .0 .1 .0
+same-length-2 c = omega arith
 
 same-length-3 : tie.Need-same-length-3 Inv-loop μ-loop
-same-length-3 c = c .before .loop .inv .1 .0 .1 .1 .0
+same-length-3 c = omega arith
 
 same-length-4 : tie.Need-same-length-4 Inv-loop μ-loop
-same-length-4 c = c .before .loop .inv .1 .0 .1 .1 .1
+same-length-4 c = omega arith
 
 returns : tie.Need-returns Inv-loop μ-loop
 unfolding recomputeAll

@@ -1,7 +1,4 @@
 -- An empty head is left alone.
-use mathlib.Core.Path.{_≡_, sym, _∙_}
-use mathlib.Core.Bool.{true, false}
-use Rattle.rules.specs.Records.{used}
 use Rattle.rules.specs.Caches.{recomputeUsed}
 use borrow.Author.Needs.{needs}
 use Rattle.all_caches.proofs.recompute_used.Statement.{statement}
@@ -28,14 +25,14 @@ same-length-4 c = search needs
 returns : tie.Need-returns
 unfolding recomputeUsed
 returns c =
-    let e : used (c .before .before .before .before .before .before .before .before .before .before .before .before .before .before .before .before .before .before .before .before .before .before .before .args .tips .now) (c .before .before .before .before .before .before .before .before .before .before .before .before .before .before .before .before .before .before .before .before .before .before .before .args .head .0) ≡ true = sym (c .before .before .before .before .before .before .before .before .before .before .before .before .before .before .is-used .ensures) ∙ c .before .before .before .before .before .before .before .before .before .before .before .before .before .if1 .taken in
-    rw e (c .before .before .before .before .before .before .before .before .recompute-alone .ensures)
+    let is-used = let p : tie.After-is-used = search in p .is-used in
+    let if1 = let p : tie.Then1 = search in p .if1 in
+    let recompute-alone = let p : tie.After-recompute-alone = search in p .recompute-alone in
+    rw (← is-used .ensures, if1 .taken) (recompute-alone .ensures)
 
 returns-2 : tie.Need-returns-2
 unfolding recomputeUsed
-returns-2 c =
-    let e : used (c .before .before .before .before .before .before .before .before .before .before .args .tips .now) (c .before .before .before .before .before .before .before .before .before .before .args .head .0) ≡ false = sym (c .before .is-used .ensures) ∙ c .if1 .left in
-    rw e
+returns-2 c = rw (← c .before .is-used .ensures, c .if1 .left)
 
 pub recompute-used-spec : {M : Type 1} → statement M
 recompute-used-spec =

@@ -33,8 +33,11 @@ same-length-4 c = search needs
 returns : tie.Need-returns
 unfolding refreshHead
 returns c =
-    let f = sym (c .before .before .before .before .before .before .before .before .before .before .before .before .before .before .before .before .slot-of-head .ensures) ∙ ap headFound (c .before .before .before .before .before .before .before .before .before .before .before .before .before .before .head .given .1) in
-    rw (f, refreshHead) (c .before .before .before .before .before .before .before .before .recompute-alone .ensures)
+    let slot-of-head = let p : tie.After-slot-of-head = search in p .slot-of-head in
+    let head = let p : tie.After-head = search in p .head in
+    let recompute-alone = let p : tie.After-recompute-alone = search in p .recompute-alone in
+    let f = sym (slot-of-head .ensures) ∙ ap headFound (head .given .1) in
+    rw (f, refreshHead) (recompute-alone .ensures)
 
 returns-2 : tie.Need-returns-2
 unfolding refreshHead

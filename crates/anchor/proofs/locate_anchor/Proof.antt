@@ -13,7 +13,8 @@ use Rattle.anchor.proofs.locate_anchor.Statement.{statement}
 use Rattle.anchor.proofs.locate_anchor.Tie as tie
 
 abbrev Inv-loop : tie.InvT-loop
-Inv-loop parents sequences flags n len current₀ last₀ visits₀ current last visits = (visits ≤ n) × (anchorFrom parents sequences flags n last₀ current₀ ≡ anchorFrom parents sequences flags (n - visits) last current)
+Inv-loop parents sequences flags n len current₀ last₀ visits₀ current last visits = (visits ≤ n) ×
+    (anchorFrom parents sequences flags n last₀ current₀ ≡ anchorFrom parents sequences flags (n - visits) last current)
 
 abbrev μ-loop : tie.MeasureT-loop
 μ-loop parents sequences flags n len current₀ last₀ visits₀ current last visits = n - visits
@@ -30,9 +31,10 @@ loop-holds c = (omega arith, rw sub-zero)
 returns : tie.Need-returns Inv-loop μ-loop
 unfolding locateAnchor
 returns c =
-    let n = c .before .before .before .before .before .before .slots in
-    let l = c .before .before .loop in
-    rw (← n .ensures) (sym (l .inv .1 ∙ anchor-empty _ _ _ (n .result - l .visits) (l .last) (l .current) (omega arith) (past-the-end _ (l .current) (omega arith))))
+    let n = let p : tie.After-slots Inv-loop μ-loop = search in p .slots in
+    let l = let p : tie.At-loop Inv-loop μ-loop = search in p .loop in
+    rw (← n .ensures) (sym (l .inv .1
+    ∙ anchor-empty _ _ _ (n .result - l .visits) (l .last) (l .current) (omega arith) (past-the-end _ (l .current) (omega arith))))
 
 cast-k : tie.Need-cast-k Inv-loop μ-loop
 cast-k c = search needs
@@ -46,9 +48,10 @@ shared-slice-read-if5 c = omega arith
 returns-2 : tie.Need-returns-2 Inv-loop μ-loop
 unfolding locateAnchor
 returns-2 c =
-    let n = c .before .before .before .before .before .before .before .before .before .slots in
-    let l = c .before .before .before .before .before .loop in
-    rw (← n .ensures) (sym (l .inv .1 ∙ anchor-empty _ _ _ (n .result - l .visits) (l .last) (l .current) (omega arith) (empty-in-range _ (l .current) (omega arith) (c .if5 .taken))))
+    let n = let p : tie.After-slots Inv-loop μ-loop = search in p .slots in
+    let l = let p : tie.At-loop Inv-loop μ-loop = search in p .loop in
+    rw (← n .ensures) (sym (l .inv .1
+    ∙ anchor-empty _ _ _ (n .result - l .visits) (l .last) (l .current) (omega arith) (empty-in-range _ (l .current) (omega arith) (c .if5 .taken))))
 
 shared-slice-read-if6 : tie.Need-shared-slice-read-if6 Inv-loop μ-loop
 shared-slice-read-if6 c = omega arith
@@ -56,9 +59,12 @@ shared-slice-read-if6 c = omega arith
 returns-3 : tie.Need-returns-3 Inv-loop μ-loop
 unfolding locateAnchor
 returns-3 c =
-    let n = c .before .before .before .before .before .before .before .before .before .before .before .slots in
-    let l = c .before .before .before .before .before .before .before .loop in
-    rw (← n .ensures) (sym (l .inv .1 ∙ anchor-active _ _ _ (n .result - l .visits) (l .last) (l .current) (omega arith) (occupied-in-range _ (l .current) (omega arith) (c .before .before .if5 .left)) (bit-set _ (l .current) (c .if6 .taken))))
+    let if5 = let p : tie.Else5 Inv-loop μ-loop = search in p .if5 in
+    let n = let p : tie.After-slots Inv-loop μ-loop = search in p .slots in
+    let l = let p : tie.At-loop Inv-loop μ-loop = search in p .loop in
+    rw (← n .ensures) (sym (l .inv .1
+    ∙ anchor-active _ _ _ (n .result - l .visits) (l .last) (l .current) (omega arith) (occupied-in-range _ (l .current) (omega arith) (if5 .left))
+    (bit-set _ (l .current) (c .if6 .taken))))
 
 mul-current : tie.Need-mul-current Inv-loop μ-loop
 mul-current c = search needs
@@ -74,19 +80,24 @@ loop-less c = omega arith
 
 loop-again : tie.Need-loop-again Inv-loop μ-loop
 loop-again c =
-    let n = c .before .before .before .before .before .before .before .before .before .before .before .before .slots in
-    let l = c .before .before .before .before .before .before .before .before .loop in
+    let args = let p : tie.Start Inv-loop μ-loop = search in p .args in
+    let if5 = let p : tie.Else5 Inv-loop μ-loop = search in p .if5 in
+    let if6 = let p : tie.Else6 Inv-loop μ-loop = search in p .if6 in
+    let n = let p : tie.After-slots Inv-loop μ-loop = search in p .slots in
+    let l = let p : tie.At-loop Inv-loop μ-loop = search in p .loop in
     let k : ℕ = n .result - (l .visits + 1) in
     let e : n .result - l .visits ≡ suc k = omega arith in (
       omega arith,
-      l .inv .1 ∙ rw (e, getD-any (c .before .before .before .before .before .before .before .before .before .before .before .before .before .before .before .before .args .parents .now) (l .current) 0 NONE (omega arith)) (anchor-goes _ _ _ k (l .last) (l .current) (omega arith) (occupied-in-range _ (l .current) (omega arith) (c .before .before .before .if5 .left)) (bit-clear _ (l .current) (c .before .if6 .left))),
+      l .inv .1 ∙ rw (e, getD-any (args .parents .now) (l .current) 0 NONE (omega arith))
+          (anchor-goes _ _ _ k (l .last) (l .current) (omega arith) (occupied-in-range _ (l .current) (omega arith) (if5 .left))
+          (bit-clear _ (l .current) (if6 .left))),
     )
 
 returns-4 : tie.Need-returns-4 Inv-loop μ-loop
 unfolding locateAnchor
 returns-4 c =
-    let n = c .before .before .before .before .before .slots in
-    let l = c .before .loop in
+    let n = let p : tie.After-slots Inv-loop μ-loop = search in p .slots in
+    let l = let p : tie.At-loop Inv-loop μ-loop = search in p .loop in
     rw (← n .ensures) (sym (l .inv .1 ∙ anchor-spent _ _ _ (n .result - l .visits) (l .last) (l .current) (omega arith)))
 
 locate-by-total-reads-requires : tie.Need-locate-by-total-reads-requires Inv-loop μ-loop

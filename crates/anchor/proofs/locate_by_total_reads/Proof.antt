@@ -10,7 +10,8 @@ use Rattle.anchor.proofs.locate_by_total_reads.Statement.{statement}
 use Rattle.anchor.proofs.locate_by_total_reads.Tie as tie
 
 abbrev Inv-loop : tie.InvT-loop
-Inv-loop parents sequences flags n current₀ last₀ visits₀ current last visits = (visits ≤ n) × (anchorFrom parents sequences flags n last₀ current₀ ≡ anchorFrom parents sequences flags (n - visits) last current)
+Inv-loop parents sequences flags n current₀ last₀ visits₀ current last visits = (visits ≤ n) ×
+    (anchorFrom parents sequences flags n last₀ current₀ ≡ anchorFrom parents sequences flags (n - visits) last current)
 
 abbrev μ-loop : tie.MeasureT-loop
 μ-loop parents sequences flags n current₀ last₀ visits₀ current last visits = n - visits
@@ -27,8 +28,11 @@ is-occupied-requires c κs = tt
 returns : tie.Need-returns Inv-loop μ-loop
 unfolding locateAnchor
 returns c =
-    rw (← c .before .before .before .before .slots .ensures) (sym (c .before .before .before .loop .inv .1 ∙ anchor-empty _ _ _ (c .before .before .before .before .slots .result - c .before .before .before .loop .visits) (c .before .before .before .loop .last) (c .before .before .before .loop .current) (omega arith)
-    (sym (c .before .is-occupied .ensures) ∙ not-true (c .before .is-occupied .result) (c .if1 .taken))))
+    let slots = let p : tie.After-slots Inv-loop μ-loop = search in p .slots in
+    let loop = let p : tie.At-loop Inv-loop μ-loop = search in p .loop in
+    let is-occupied = let p : tie.After-is-occupied Inv-loop μ-loop = search in p .is-occupied in
+    rw (← slots .ensures) (sym (loop .inv .1 ∙ anchor-empty _ _ _ (slots .result - loop .visits) (loop .last) (loop .current) (omega arith)
+    (sym (is-occupied .ensures) ∙ not-true (is-occupied .result) (c .if1 .taken))))
 
 is-on-active-chain-requires : tie.Need-is-on-active-chain-requires Inv-loop μ-loop
 is-on-active-chain-requires c κs = tt
@@ -36,8 +40,13 @@ is-on-active-chain-requires c κs = tt
 returns-2 : tie.Need-returns-2 Inv-loop μ-loop
 unfolding locateAnchor
 returns-2 c =
-    rw (← c .before .before .before .before .before .before .slots .ensures) (sym (c .before .before .before .before .before .loop .inv .1 ∙ anchor-active _ _ _ (c .before .before .before .before .before .before .slots .result - c .before .before .before .before .before .loop .visits) (c .before .before .before .before .before .loop .last) (c .before .before .before .before .before .loop .current) (omega arith)
-    (sym (c .before .before .before .is-occupied .ensures) ∙ not-false (c .before .before .before .is-occupied .result) (c .before .before .if1 .left)) (sym (c .before .is-on-active-chain .ensures) ∙ c .if2 .taken)))
+    let slots = let p : tie.After-slots Inv-loop μ-loop = search in p .slots in
+    let loop = let p : tie.At-loop Inv-loop μ-loop = search in p .loop in
+    let is-occupied = let p : tie.After-is-occupied Inv-loop μ-loop = search in p .is-occupied in
+    let if1 = let p : tie.Else1 Inv-loop μ-loop = search in p .if1 in
+    let is-on-active-chain = let p : tie.After-is-on-active-chain Inv-loop μ-loop = search in p .is-on-active-chain in
+    rw (← slots .ensures) (sym (loop .inv .1 ∙ anchor-active _ _ _ (slots .result - loop .visits) (loop .last) (loop .current) (omega arith)
+    (sym (is-occupied .ensures) ∙ not-false (is-occupied .result) (if1 .left)) (sym (is-on-active-chain .ensures) ∙ c .if2 .taken)))
 
 word-at-requires : tie.Need-word-at-requires Inv-loop μ-loop
 word-at-requires c κs = tt
@@ -45,8 +54,16 @@ word-at-requires c κs = tt
 returns-3 : tie.Need-returns-3 Inv-loop μ-loop
 unfolding locateAnchor
 returns-3 c =
-    rw (← c .before .before .before .before .before .before .before .before .before .slots .ensures) (sym (c .before .before .before .before .before .before .before .before .loop .inv .1 ∙ anchor-root _ _ _ (c .before .before .before .before .before .before .before .before .before .slots .result - c .before .before .before .before .before .before .before .before .loop .visits) (c .before .before .before .before .before .before .before .before .loop .last) (c .before .before .before .before .before .before .before .before .loop .current) (omega arith)
-    (sym (c .before .before .before .before .before .before .is-occupied .ensures) ∙ not-false (c .before .before .before .before .before .before .is-occupied .result) (c .before .before .before .before .before .if1 .left)) (sym (c .before .before .before .before .is-on-active-chain .ensures) ∙ c .before .before .before .if2 .left) (sym (c .before .before .word-at .ensures) ∙ c .if3 .taken)))
+    let slots = let p : tie.After-slots Inv-loop μ-loop = search in p .slots in
+    let loop = let p : tie.At-loop Inv-loop μ-loop = search in p .loop in
+    let is-occupied = let p : tie.After-is-occupied Inv-loop μ-loop = search in p .is-occupied in
+    let if1 = let p : tie.Else1 Inv-loop μ-loop = search in p .if1 in
+    let is-on-active-chain = let p : tie.After-is-on-active-chain Inv-loop μ-loop = search in p .is-on-active-chain in
+    let if2 = let p : tie.Else2 Inv-loop μ-loop = search in p .if2 in
+    let word-at = let p : tie.After-word-at Inv-loop μ-loop = search in p .word-at in
+    rw (← slots .ensures) (sym (loop .inv .1 ∙ anchor-root _ _ _ (slots .result - loop .visits) (loop .last) (loop .current) (omega arith)
+    (sym (is-occupied .ensures) ∙ not-false (is-occupied .result) (if1 .left)) (sym (is-on-active-chain .ensures) ∙ if2 .left)
+    (sym (word-at .ensures) ∙ c .if3 .taken)))
 
 add-visits : tie.Need-add-visits Inv-loop μ-loop
 add-visits c = omega arith
@@ -56,16 +73,26 @@ loop-less c = omega arith
 
 loop-again : tie.Need-loop-again Inv-loop μ-loop
 loop-again c =
-    let k : ℕ = c .before .before .before .before .before .before .before .before .before .slots .result - (c .before .before .before .before .before .before .before .before .loop .visits + 1) in
-    let e : c .before .before .before .before .before .before .before .before .before .slots .result - c .before .before .before .before .before .before .before .before .loop .visits ≡ suc k = omega arith in (
+    let slots = let p : tie.After-slots Inv-loop μ-loop = search in p .slots in
+    let loop = let p : tie.At-loop Inv-loop μ-loop = search in p .loop in
+    let is-occupied = let p : tie.After-is-occupied Inv-loop μ-loop = search in p .is-occupied in
+    let if1 = let p : tie.Else1 Inv-loop μ-loop = search in p .if1 in
+    let is-on-active-chain = let p : tie.After-is-on-active-chain Inv-loop μ-loop = search in p .is-on-active-chain in
+    let if2 = let p : tie.Else2 Inv-loop μ-loop = search in p .if2 in
+    let word-at = let p : tie.After-word-at Inv-loop μ-loop = search in p .word-at in
+    let k : ℕ = slots .result - (loop .visits + 1) in
+    let e : slots .result - loop .visits ≡ suc k = omega arith in (
       omega arith,
-      c .before .before .before .before .before .before .before .before .loop .inv .1 ∙ rw (e, c .before .before .word-at .ensures) (anchor-up _ _ _ k (c .before .before .before .before .before .before .before .before .loop .last) (c .before .before .before .before .before .before .before .before .loop .current)
-          (sym (c .before .before .before .before .before .before .is-occupied .ensures) ∙ not-false (c .before .before .before .before .before .before .is-occupied .result) (c .before .before .before .before .before .if1 .left)) (sym (c .before .before .before .before .is-on-active-chain .ensures) ∙ c .before .before .before .if2 .left) (λ q. c .if3 .left (c .before .before .word-at .ensures ∙ q))),
+      loop .inv .1 ∙ rw (e, word-at .ensures) (anchor-up _ _ _ k (loop .last) (loop .current)
+          (sym (is-occupied .ensures) ∙ not-false (is-occupied .result) (if1 .left)) (sym (is-on-active-chain .ensures) ∙ if2 .left)
+          (λ q. c .if3 .left (word-at .ensures ∙ q))),
     )
 
 returns-4 : tie.Need-returns-4 Inv-loop μ-loop
 unfolding locateAnchor
-returns-4 c = rw (← c .before .before .slots .ensures) (sym (c .before .loop .inv .1 ∙ anchor-spent _ _ _ (c .before .before .slots .result - c .before .loop .visits) (c .before .loop .last) (c .before .loop .current) (omega arith)))
+returns-4 c = rw (← c .before .before .slots .ensures)
+    (sym (c .before .loop .inv .1 ∙ anchor-spent _ _ _ (c .before .before .slots .result - c .before .loop .visits) (c .before .loop .last)
+    (c .before .loop .current) (omega arith)))
 
 pub locate-by-total-reads-spec : {M : Type 1} → statement M
 locate-by-total-reads-spec =

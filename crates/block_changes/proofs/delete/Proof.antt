@@ -1,8 +1,6 @@
 -- An empty slot keeps its fields.
-use mathlib.Core.Path.{_≡_, sym, _∙_}
-use mathlib.Core.Bool.{true, false}
+use mathlib.Core.Path.{sym, _∙_}
 use borrow.Author.Tests.{not-true, not-false}
-use Rattle.rules.specs.Records.{occupied}
 use Rattle.rules.specs.BlockTable.{delete}
 use borrow.Author.Needs.{needs}
 use Rattle.block_changes.proofs.delete.Statement.{statement}
@@ -17,7 +15,7 @@ same-length c = search needs
 returns : tie.Need-returns
 unfolding delete
 returns c =
-    let e : occupied (c .before .before .before .before .before .before .before .before .args .sequences .now) (c .before .before .before .before .before .before .before .before .args .slot .0) ≡ false = sym (c .before .is-occupied .ensures) ∙ not-true (c .before .is-occupied .result) (c .if1 .taken) in
+    let e = sym (c .before .is-occupied .ensures) ∙ not-true (c .before .is-occupied .result) (c .if1 .taken) in
     (sym e, rw e)
 
 empty-requires : tie.Need-empty-requires
@@ -44,8 +42,12 @@ same-length-6 c = search needs
 returns-2 : tie.Need-returns-2
 unfolding delete
 returns-2 c =
-    let e : occupied (c .before .before .before .before .before .before .before .before .before .before .before .before .before .before .before .before .before .before .before .before .before .before .before .before .before .args .sequences .now) (c .before .before .before .before .before .before .before .before .before .before .before .before .before .before .before .before .before .before .before .before .before .before .before .before .before .args .slot .0) ≡ true = sym (c .before .before .before .before .before .before .before .before .before .before .before .before .before .before .before .before .before .before .is-occupied .ensures) ∙ not-false (c .before .before .before .before .before .before .before .before .before .before .before .before .before .before .before .before .before .before .is-occupied .result) (c .before .before .before .before .before .before .before .before .before .before .before .before .before .before .before .before .before .if1 .left) in
-    (sym e, c .before .before .before .before .before .before .before .before .before .before .put-block .ensures ∙ rw (e, c .before .before .before .before .before .before .before .before .before .before .before .empty .ensures))
+    let is-occupied = let p : tie.After-is-occupied = search in p .is-occupied in
+    let if1 = let p : tie.Else1 = search in p .if1 in
+    let empty = let p : tie.After-empty = search in p .empty in
+    let put-block = let p : tie.After-put-block = search in p .put-block in
+    let e = sym (is-occupied .ensures) ∙ not-false (is-occupied .result) (if1 .left) in
+    (sym e, put-block .ensures ∙ rw (e, empty .ensures))
 
 pub delete-spec : {M : Type 1} → statement M
 delete-spec =

@@ -32,8 +32,12 @@ same-length-5 c = search needs
 returns : tie.Need-returns
 unfolding insertAt
 returns c =
-    let l : c .before .before .before .before .before .before .before .before .before .before .before .before .before .before .before .before .before .before .before .before .before .before .before .before .before .args .slot .0 < slotsOf (c .before .before .before .before .before .before .before .before .before .before .before .before .before .before .before .before .before .before .before .before .before .before .before .before .before .args .sequences .now) = rw (c .before .before .before .before .before .before .before .before .before .before .before .before .before .before .before .before .before .before .slots .ensures) at (c .before .before .before .before .before .before .before .before .before .before .before .before .before .before .before .before .if1 .taken) in
-    c .before .before .before .before .before .before .before .before .before .before .put-block .ensures ∙ rw (lt-ltb _ _ l)
+    let args = let p : tie.Start = search in p .args in
+    let slots = let p : tie.After-slots = search in p .slots in
+    let if1 = let p : tie.Then1 = search in p .if1 in
+    let put-block = let p : tie.After-put-block = search in p .put-block in
+    let l : args .slot .0 < slotsOf (args .sequences .now) = rw (slots .ensures) at (if1 .taken) in
+    put-block .ensures ∙ rw (lt-ltb _ _ l)
 
 same-length-6 : tie.Need-same-length-6
 same-length-6 c = search needs
@@ -41,7 +45,9 @@ same-length-6 c = search needs
 returns-2 : tie.Need-returns-2
 unfolding insertAt
 returns-2 c =
-    let l : slotsOf (c .before .before .before .before .before .before .before .before .before .args .sequences .now) ≤ c .before .before .before .before .before .before .before .before .before .args .slot .0 = rw (c .before .before .slots .ensures) at (c .if1 .left) in
+    let args = let p : tie.Start = search in p .args in
+    let slots = let p : tie.After-slots = search in p .slots in
+    let l : slotsOf (args .sequences .now) ≤ args .slot .0 = rw (slots .ensures) at (c .if1 .left) in
     rw (le-ltb _ _ l)
 
 pub insert-at-spec : {M : Type 1} → statement M

@@ -36,7 +36,13 @@ same-length-5 c = search needs
 
 returns : tie.Need-returns
 unfolding putBlock
-returns c = rw (c .before .before .before .before .before .before .before .before .before .before .before .before .before .before .before .before .before .before .put-hash .ensures, c .before .before .before .before .before .before .before .before .before .before .before .before .before .before .put-word .ensures, c .before .before .before .before .before .before .before .before .before .before .put-word2 .ensures, c .before .before .before .before .before .before .put-byte .ensures, c .before .before .put-byte2 .ensures)
+returns c =
+    let put-hash = let p : tie.After-put-hash = search in p .put-hash in
+    let put-word = let p : tie.After-put-word = search in p .put-word in
+    let put-word2 = let p : tie.After-put-word2 = search in p .put-word2 in
+    let put-byte = let p : tie.After-put-byte = search in p .put-byte in
+    let put-byte2 = let p : tie.After-put-byte2 = search in p .put-byte2 in
+    rw (put-hash .ensures, put-word .ensures, put-word2 .ensures, put-byte .ensures, put-byte2 .ensures)
 
 pub put-block-spec : {M : Type 1} → statement M
 put-block-spec =

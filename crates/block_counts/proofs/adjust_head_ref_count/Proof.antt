@@ -1,8 +1,6 @@
 -- Nothing on an empty slot.
 use mathlib.Core.Path.{_≡_, sym, _∙_}
-use mathlib.Core.Bool.{true, false}
 use borrow.Author.Tests.{not-true, not-false}
-use Rattle.rules.specs.Records.{occupied}
 use mir.Syntax.{w8}
 use mir.ValLaws.{toZ-ofZ}
 use Rattle.rules.specs.Records.{countAt}
@@ -17,7 +15,7 @@ is-occupied-requires c κs = tt
 returns : tie.Need-returns
 unfolding adjustedAt adjustCounts
 returns c =
-    let e : occupied (c .before .before .before .before .args .sequences .now) (c .before .before .before .before .args .slot .0) ≡ false = sym (c .before .is-occupied .ensures) ∙ not-true (c .before .is-occupied .result) (c .if1 .taken) in
+    let e = sym (c .before .is-occupied .ensures) ∙ not-true (c .before .is-occupied .result) (c .if1 .taken) in
     (rw e, rw e)
 
 byte-at-requires : tie.Need-byte-at-requires
@@ -35,9 +33,17 @@ same-length c = search needs
 returns-2 : tie.Need-returns-2
 unfolding adjustedAt adjustCounts
 returns-2 c =
-    let e : occupied (c .before .before .before .before .before .before .before .before .before .before .before .args .sequences .now) (c .before .before .before .before .before .before .before .before .before .before .before .args .slot .0) ≡ true = sym (c .before .before .before .before .before .before .before .before .is-occupied .ensures) ∙ not-false (c .before .before .before .before .before .before .before .before .is-occupied .result) (c .before .before .before .before .before .before .before .if1 .left) in
-    let n : c .before .before .before .before .adjusted-count .result ≡ adjusted (countAt (c .before .before .before .before .before .before .before .before .before .before .before .args .counts .now) (c .before .before .before .before .before .before .before .before .before .before .before .args .slot .0)) (c .before .before .before .before .before .before .before .before .before .before .before .args .change) = c .before .before .before .before .adjusted-count .ensures ∙ rw (c .before .before .before .before .before .byte-at .ensures, toZ-ofZ w8 (c .before .before .before .before .before .before .before .before .before .before .before .args .change) (c .before .before .before .before .before .before .before .before .before .before .before .fits .change)) in
-    (rw (e, n), c .before .before .put-byte .ensures ∙ rw (e, n))
+    let fits = let p : tie.Start = search in p .fits in
+    let args = let p : tie.Start = search in p .args in
+    let is-occupied = let p : tie.After-is-occupied = search in p .is-occupied in
+    let if1 = let p : tie.Else1 = search in p .if1 in
+    let byte-at = let p : tie.After-byte-at = search in p .byte-at in
+    let adjusted-count = let p : tie.After-adjusted-count = search in p .adjusted-count in
+    let put-byte = let p : tie.After-put-byte = search in p .put-byte in
+    let e = sym (is-occupied .ensures) ∙ not-false (is-occupied .result) (if1 .left) in
+    let n : adjusted-count .result ≡ adjusted (countAt (args .counts .now) (args .slot .0)) (args .change) =
+    adjusted-count .ensures ∙ rw (byte-at .ensures, toZ-ofZ w8 (args .change) (fits .change)) in
+    (rw (e, n), put-byte .ensures ∙ rw (e, n))
 
 pub adjust-head-ref-count-spec : {M : Type 1} → statement M
 adjust-head-ref-count-spec =

@@ -4,18 +4,13 @@ use mathlib.Core.Bool.{true, false}
 use borrow.Author.Tests.{not-true, not-false}
 use Rattle.rules.specs.Records.{occupied, blockAt}
 use Rattle.rules.specs.declared.Block.{Block}
+use Rattle.rules.proofs.Places.{the}
 use Rattle.block_reading.proofs.Got.{got-nothing, got-there}
 use Rattle.block_reading.proofs.get.Statement.{statement}
 use Rattle.block_reading.proofs.get.Tie as tie
 
-abbrev the : (A : Type 0) → A → A
-the A a = a
-
 abbrev tested : tie.After-empty → tie.Then1
 tested c = search
-
-abbrev left : tie.After-byte-at2 → tie.Else1
-left c = search
 
 abbrev start : tie.After-is-occupied → tie.Start
 start c = search
@@ -55,8 +50,13 @@ byte-at-requires-2 c κs = tt
 returns-2 : tie.Need-returns-2
 unfolding blockAt
 returns-2 c =
-    rw (c .before .before .before .before .hash-at .ensures, c .before .before .before .word-at .ensures, c .before .before .word-at2 .ensures, c .before .byte-at .ensures, c .byte-at2 .ensures)
-    (sym (got-there _ _ (taken (left c))))
+    let hash-at = let p : tie.After-hash-at = search in p .hash-at in
+    let word-at = let p : tie.After-word-at = search in p .word-at in
+    let word-at2 = let p : tie.After-word-at2 = search in p .word-at2 in
+    let byte-at = let p : tie.After-byte-at = search in p .byte-at in
+    let byte-at2 = let p : tie.After-byte-at2 = search in p .byte-at2 in
+    rw (hash-at .ensures, word-at .ensures, word-at2 .ensures, byte-at .ensures, byte-at2 .ensures)
+    (sym (got-there _ _ (taken (the tie.Else1 (search)))))
 
 pub get-spec : {M : Type 1} → statement M
 get-spec =

@@ -18,7 +18,9 @@ abbrev μ-loop : tie.MeasureT-loop
 
 returns : tie.Need-returns Inv-loop μ-loop
 unfolding find
-returns c = sym (none-found (c .before .before .before .before .args .hashes .now) (c .before .before .before .before .args .sequences .now) (c .before .before .before .before .args .sequence .0) (c .before .before .before .before .args .hash) _ (c .if1 .taken))
+returns c =
+    let args = let p : tie.Start Inv-loop μ-loop = search in p .args in
+    sym (none-found (args .hashes .now) (args .sequences .now) (args .sequence .0) (args .hash) _ (c .if1 .taken))
 
 slots-requires : tie.Need-slots-requires Inv-loop μ-loop
 slots-requires c κs = tt
@@ -27,14 +29,28 @@ next-at-requires : tie.Need-next-at-requires Inv-loop μ-loop
 next-at-requires c κs = tt
 
 loop-holds : tie.Need-loop-holds Inv-loop μ-loop
-loop-holds c = (c .before .slots .ensures, rw (c .next-at .ensures) (search-first (c .before .before .before .before .before .before .args .sequences .now) (c .before .before .before .before .before .before .args .sequence .0) _ (other (c .before .before .before .before .before .before .args .hashes .now) (c .before .before .before .before .before .before .args .sequences .now) (c .before .before .before .before .before .before .args .sequence .0) (c .before .before .before .before .before .before .args .hash))))
+loop-holds c =
+    let args = let p : tie.Start Inv-loop μ-loop = search in p .args in
+    let slots = let p : tie.After-slots Inv-loop μ-loop = search in p .slots in (
+      slots .ensures,
+      rw (c .next-at .ensures)
+          (search-first (args .sequences .now) (args .sequence .0) _ (other (args .hashes .now) (args .sequences .now) (args .sequence .0) (args .hash))),
+    )
 
 same-hash-at-requires : tie.Need-same-hash-at-requires Inv-loop μ-loop
 same-hash-at-requires c κs = tt
 
 returns-2 : tie.Need-returns-2 Inv-loop μ-loop
 unfolding find
-returns-2 c = sym (lowest-at _ (c .before .before .before .loop .i) _ (c .before .before .before .loop .inv .1 .1 .0) (fits (c .before .before .before .before .before .before .before .before .before .before .args .hashes .now) (c .before .before .before .before .before .before .before .before .before .before .args .sequences .now) (c .before .before .before .before .before .before .before .before .before .before .args .sequence .0) (c .before .before .before .before .before .before .before .before .before .before .args .hash) (c .before .before .before .loop .i) (c .before .before .before .before .before .before .if1 .left) (c .before .before .before .loop .inv .1 .1 .1 (omega (arith, c .before .before .before .before .before .slots .ensures))) ∙ sym (c .before .same-hash-at .ensures) ∙ c .if2 .taken) (omega (arith, c .before .before .before .before .before .slots .ensures)))
+returns-2 c =
+    let args = let p : tie.Start Inv-loop μ-loop = search in p .args in
+    let if1 = let p : tie.Else1 Inv-loop μ-loop = search in p .if1 in
+    let slots = let p : tie.After-slots Inv-loop μ-loop = search in p .slots in
+    let loop = let p : tie.At-loop Inv-loop μ-loop = search in p .loop in
+    let same-hash-at = let p : tie.After-same-hash-at Inv-loop μ-loop = search in p .same-hash-at in
+    sym (lowest-at _ (loop .i) _ (loop .inv .1 .1 .0)
+    (fits (args .hashes .now) (args .sequences .now) (args .sequence .0) (args .hash) (loop .i) (if1 .left)
+    (loop .inv .1 .1 .1 (omega (arith, slots .ensures))) ∙ sym (same-hash-at .ensures) ∙ c .if2 .taken) (omega (arith, slots .ensures)))
 
 add-next-at : tie.Need-add-next-at Inv-loop μ-loop
 add-next-at c = omega arith
@@ -43,19 +59,41 @@ next-at-requires-2 : tie.Need-next-at-requires-2 Inv-loop μ-loop
 next-at-requires-2 c κs = tt
 
 loop-less : tie.Need-loop-less Inv-loop μ-loop
-loop-less c = omega (arith, c .before .before .before .before .before .before .slots .ensures, c .next-at2 .ensures, next-after (c .before .before .before .before .before .before .before .before .before .before .before .args .sequences .now) (c .before .before .before .before .loop .i + 1) (c .before .before .before .before .before .before .before .before .before .before .before .args .sequence .0) (omega (arith, c .before .before .before .before .before .before .slots .ensures)))
+loop-less c =
+    let args = let p : tie.Start Inv-loop μ-loop = search in p .args in
+    let slots = let p : tie.After-slots Inv-loop μ-loop = search in p .slots in
+    let loop = let p : tie.At-loop Inv-loop μ-loop = search in p .loop in
+    omega (
+      arith,
+      slots .ensures,
+      c .next-at2 .ensures,
+      next-after (args .sequences .now) (loop .i + 1) (args .sequence .0) (omega (arith, slots .ensures)),
+    )
 
 loop-again : tie.Need-loop-again Inv-loop μ-loop
 loop-again c =
-    let i = c .before .before .before .before .loop .i in
-    let same = fits (c .before .before .before .before .before .before .before .before .before .before .before .args .hashes .now) (c .before .before .before .before .before .before .before .before .before .before .before .args .sequences .now) (c .before .before .before .before .before .before .before .before .before .before .before .args .sequence .0) (c .before .before .before .before .before .before .before .before .before .before .before .args .hash) i (c .before .before .before .before .before .before .before .if1 .left) (c .before .before .before .before .loop .inv .1 .1 .1 (omega (arith, c .before .before .before .before .before .before .slots .ensures))) ∙ sym (c .before .before .same-hash-at .ensures) ∙ c .before .if2 .left in
-    (c .before .before .before .before .before .before .slots .ensures, rw (c .next-at2 .ensures) (search-from (c .before .before .before .before .before .before .before .before .before .before .before .args .sequences .now) (c .before .before .before .before .before .before .before .before .before .before .before .args .sequence .0) _ (other (c .before .before .before .before .before .before .before .before .before .before .before .args .hashes .now) (c .before .before .before .before .before .before .before .before .before .before .before .args .sequences .now) (c .before .before .before .before .before .before .before .before .before .before .before .args .sequence .0) (c .before .before .before .before .before .before .before .before .before .before .before .args .hash)) (i + 1) (omega (arith, c .before .before .before .before .before .before .slots .ensures)) (lowest-next _ i (c .before .before .before .before .loop .inv .1 .1 .0) same)))
+    let args = let p : tie.Start Inv-loop μ-loop = search in p .args in
+    let if1 = let p : tie.Else1 Inv-loop μ-loop = search in p .if1 in
+    let slots = let p : tie.After-slots Inv-loop μ-loop = search in p .slots in
+    let loop = let p : tie.At-loop Inv-loop μ-loop = search in p .loop in
+    let same-hash-at = let p : tie.After-same-hash-at Inv-loop μ-loop = search in p .same-hash-at in
+    let if2 = let p : tie.Else2 Inv-loop μ-loop = search in p .if2 in
+    let i = loop .i in
+    let same = fits (args .hashes .now) (args .sequences .now) (args .sequence .0) (args .hash) i (if1 .left)
+    (loop .inv .1 .1 .1 (omega (arith, slots .ensures))) ∙ sym (same-hash-at .ensures) ∙ if2 .left in (
+      slots .ensures,
+      rw (c .next-at2 .ensures)
+          (search-from (args .sequences .now) (args .sequence .0) _ (other (args .hashes .now) (args .sequences .now) (args .sequence .0) (args .hash)) (i + 1)
+          (omega (arith, slots .ensures)) (lowest-next _ i (loop .inv .1 .1 .0) same)),
+    )
 
 returns-3 : tie.Need-returns-3 Inv-loop μ-loop
 unfolding find
 returns-3 c =
-    let e : c .before .loop .i ≡ c .before .before .before .slots .result = omega arith in
-    sym (rw (← c .before .before .before .slots .ensures, ← e) (c .before .loop .inv .1 .1 .0))
+    let slots = let p : tie.After-slots Inv-loop μ-loop = search in p .slots in
+    let loop = let p : tie.At-loop Inv-loop μ-loop = search in p .loop in
+    let e : loop .i ≡ slots .result = omega arith in
+    sym (rw (← slots .ensures, ← e) (loop .inv .1 .1 .0))
 
 pub find-spec : {M : Type 1} → statement M
 find-spec =

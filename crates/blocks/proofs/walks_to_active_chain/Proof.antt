@@ -10,7 +10,8 @@ use Rattle.blocks.proofs.walks_to_active_chain.Statement.{statement}
 use Rattle.blocks.proofs.walks_to_active_chain.Tie as tie
 
 abbrev Inv-loop : tie.InvT-loop
-Inv-loop parents sequences flags n current₀ tries₀ current tries = (tries ≤ n) × (walksToActive parents sequences flags n current₀ ≡ walksToActive parents sequences flags (n - tries) current)
+Inv-loop parents sequences flags n current₀ tries₀ current tries = (tries ≤ n) ×
+    (walksToActive parents sequences flags n current₀ ≡ walksToActive parents sequences flags (n - tries) current)
 
 abbrev μ-loop : tie.MeasureT-loop
 μ-loop parents sequences flags n current₀ tries₀ current tries = n - tries
@@ -27,8 +28,11 @@ is-occupied-requires c κs = tt
 returns : tie.Need-returns Inv-loop μ-loop
 unfolding walksToActiveChain
 returns c =
-    rw (← c .before .before .before .before .slots .ensures) (sym (c .before .before .before .loop .inv .1 ∙ active-empty _ _ _ (c .before .before .before .before .slots .result - c .before .before .before .loop .tries) (c .before .before .before .loop .current) (omega arith)
-    (sym (c .before .is-occupied .ensures) ∙ not-true (c .before .is-occupied .result) (c .if1 .taken))))
+    let slots = let p : tie.After-slots Inv-loop μ-loop = search in p .slots in
+    let loop = let p : tie.At-loop Inv-loop μ-loop = search in p .loop in
+    let is-occupied = let p : tie.After-is-occupied Inv-loop μ-loop = search in p .is-occupied in
+    rw (← slots .ensures) (sym (loop .inv .1 ∙ active-empty _ _ _ (slots .result - loop .tries) (loop .current) (omega arith)
+    (sym (is-occupied .ensures) ∙ not-true (is-occupied .result) (c .if1 .taken))))
 
 is-on-active-chain-requires : tie.Need-is-on-active-chain-requires Inv-loop μ-loop
 is-on-active-chain-requires c κs = tt
@@ -36,8 +40,13 @@ is-on-active-chain-requires c κs = tt
 returns-2 : tie.Need-returns-2 Inv-loop μ-loop
 unfolding walksToActiveChain
 returns-2 c =
-    rw (← c .before .before .before .before .before .before .slots .ensures) (sym (c .before .before .before .before .before .loop .inv .1 ∙ active-here _ _ _ (c .before .before .before .before .before .before .slots .result - c .before .before .before .before .before .loop .tries) (c .before .before .before .before .before .loop .current) (omega arith)
-    (sym (c .before .before .before .is-occupied .ensures) ∙ not-false (c .before .before .before .is-occupied .result) (c .before .before .if1 .left)) (sym (c .before .is-on-active-chain .ensures) ∙ c .if2 .taken)))
+    let slots = let p : tie.After-slots Inv-loop μ-loop = search in p .slots in
+    let loop = let p : tie.At-loop Inv-loop μ-loop = search in p .loop in
+    let is-occupied = let p : tie.After-is-occupied Inv-loop μ-loop = search in p .is-occupied in
+    let if1 = let p : tie.Else1 Inv-loop μ-loop = search in p .if1 in
+    let is-on-active-chain = let p : tie.After-is-on-active-chain Inv-loop μ-loop = search in p .is-on-active-chain in
+    rw (← slots .ensures) (sym (loop .inv .1 ∙ active-here _ _ _ (slots .result - loop .tries) (loop .current) (omega arith)
+    (sym (is-occupied .ensures) ∙ not-false (is-occupied .result) (if1 .left)) (sym (is-on-active-chain .ensures) ∙ c .if2 .taken)))
 
 word-at-requires : tie.Need-word-at-requires Inv-loop μ-loop
 word-at-requires c κs = tt
@@ -45,8 +54,16 @@ word-at-requires c κs = tt
 returns-3 : tie.Need-returns-3 Inv-loop μ-loop
 unfolding walksToActiveChain
 returns-3 c =
-    rw (← c .before .before .before .before .before .before .before .before .before .slots .ensures) (sym (c .before .before .before .before .before .before .before .before .loop .inv .1 ∙ active-end _ _ _ (c .before .before .before .before .before .before .before .before .before .slots .result - c .before .before .before .before .before .before .before .before .loop .tries) (c .before .before .before .before .before .before .before .before .loop .current) (omega arith)
-    (sym (c .before .before .before .before .before .before .is-occupied .ensures) ∙ not-false (c .before .before .before .before .before .before .is-occupied .result) (c .before .before .before .before .before .if1 .left)) (sym (c .before .before .before .before .is-on-active-chain .ensures) ∙ c .before .before .before .if2 .left) (sym (c .before .before .word-at .ensures) ∙ c .if3 .taken)))
+    let slots = let p : tie.After-slots Inv-loop μ-loop = search in p .slots in
+    let loop = let p : tie.At-loop Inv-loop μ-loop = search in p .loop in
+    let is-occupied = let p : tie.After-is-occupied Inv-loop μ-loop = search in p .is-occupied in
+    let if1 = let p : tie.Else1 Inv-loop μ-loop = search in p .if1 in
+    let is-on-active-chain = let p : tie.After-is-on-active-chain Inv-loop μ-loop = search in p .is-on-active-chain in
+    let if2 = let p : tie.Else2 Inv-loop μ-loop = search in p .if2 in
+    let word-at = let p : tie.After-word-at Inv-loop μ-loop = search in p .word-at in
+    rw (← slots .ensures) (sym (loop .inv .1 ∙ active-end _ _ _ (slots .result - loop .tries) (loop .current) (omega arith)
+    (sym (is-occupied .ensures) ∙ not-false (is-occupied .result) (if1 .left)) (sym (is-on-active-chain .ensures) ∙ if2 .left)
+    (sym (word-at .ensures) ∙ c .if3 .taken)))
 
 add-tries : tie.Need-add-tries Inv-loop μ-loop
 add-tries c = omega arith
@@ -56,16 +73,26 @@ loop-less c = omega arith
 
 loop-again : tie.Need-loop-again Inv-loop μ-loop
 loop-again c =
-    let k : ℕ = c .before .before .before .before .before .before .before .before .before .slots .result - (c .before .before .before .before .before .before .before .before .loop .tries + 1) in
-    let e : c .before .before .before .before .before .before .before .before .before .slots .result - c .before .before .before .before .before .before .before .before .loop .tries ≡ suc k = omega arith in (
+    let slots = let p : tie.After-slots Inv-loop μ-loop = search in p .slots in
+    let loop = let p : tie.At-loop Inv-loop μ-loop = search in p .loop in
+    let is-occupied = let p : tie.After-is-occupied Inv-loop μ-loop = search in p .is-occupied in
+    let if1 = let p : tie.Else1 Inv-loop μ-loop = search in p .if1 in
+    let is-on-active-chain = let p : tie.After-is-on-active-chain Inv-loop μ-loop = search in p .is-on-active-chain in
+    let if2 = let p : tie.Else2 Inv-loop μ-loop = search in p .if2 in
+    let word-at = let p : tie.After-word-at Inv-loop μ-loop = search in p .word-at in
+    let k : ℕ = slots .result - (loop .tries + 1) in
+    let e : slots .result - loop .tries ≡ suc k = omega arith in (
       omega arith,
-      c .before .before .before .before .before .before .before .before .loop .inv .1 ∙ rw (e, c .before .before .word-at .ensures) (active-up _ _ _ k (c .before .before .before .before .before .before .before .before .loop .current)
-          (sym (c .before .before .before .before .before .before .is-occupied .ensures) ∙ not-false (c .before .before .before .before .before .before .is-occupied .result) (c .before .before .before .before .before .if1 .left)) (sym (c .before .before .before .before .is-on-active-chain .ensures) ∙ c .before .before .before .if2 .left) (λ q. c .if3 .left (c .before .before .word-at .ensures ∙ q))),
+      loop .inv .1 ∙ rw (e, word-at .ensures) (active-up _ _ _ k (loop .current)
+          (sym (is-occupied .ensures) ∙ not-false (is-occupied .result) (if1 .left)) (sym (is-on-active-chain .ensures) ∙ if2 .left)
+          (λ q. c .if3 .left (word-at .ensures ∙ q))),
     )
 
 returns-4 : tie.Need-returns-4 Inv-loop μ-loop
 unfolding walksToActiveChain
-returns-4 c = rw (← c .before .before .slots .ensures) (sym (c .before .loop .inv .1 ∙ active-spent _ _ _ (c .before .before .slots .result - c .before .loop .tries) (c .before .loop .current) (omega arith)))
+returns-4 c = rw (← c .before .before .slots .ensures)
+    (sym (c .before .loop .inv .1 ∙ active-spent _ _ _ (c .before .before .slots .result - c .before .loop .tries) (c .before .loop .current)
+    (omega arith)))
 
 pub walks-to-active-chain-spec : {M : Type 1} → statement M
 walks-to-active-chain-spec =

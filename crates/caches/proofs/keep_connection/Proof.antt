@@ -39,8 +39,15 @@ same-length-4 c = search needs
 
 returns : tie.Need-returns
 returns c =
-    let e : c .before .before .before .before .before .before .before .before .before .before .before .before .before .before .before .before .with-bit0 .result ≡ withBit0 (getD (c .before .before .before .before .before .before .before .before .before .before .before .before .before .before .before .before .before .before .before .before .before .before .before .args .connected .now) (c .before .before .before .before .before .before .before .before .before .before .before .before .before .before .before .before .before .before .before .before .before .before .before .args .head .0) 0) true = c .before .before .before .before .before .before .before .before .before .before .before .before .before .before .before .before .with-bit0 .ensures ∙ rw (c .before .before .before .before .before .before .before .before .before .before .before .before .before .before .before .before .before .byte-at .ensures) in
-    rw (c .before .before .before .before .before .before .before .before .before .before .before .before .before .before .put-word .ensures, c .before .before .before .before .before .before .before .before .before .before .put-hash .ensures, c .before .before .before .before .before .before .put-time .ensures, c .before .before .put-byte .ensures, e)
+    let args = let p : tie.Start = search in p .args in
+    let byte-at = let p : tie.After-byte-at = search in p .byte-at in
+    let with-bit0 = let p : tie.After-with-bit0 = search in p .with-bit0 in
+    let put-word = let p : tie.After-put-word = search in p .put-word in
+    let put-hash = let p : tie.After-put-hash = search in p .put-hash in
+    let put-time = let p : tie.After-put-time = search in p .put-time in
+    let put-byte = let p : tie.After-put-byte = search in p .put-byte in
+    let e : with-bit0 .result ≡ withBit0 (getD (args .connected .now) (args .head .0) 0) true = with-bit0 .ensures ∙ rw (byte-at .ensures) in
+    rw (put-word .ensures, put-hash .ensures, put-time .ensures, put-byte .ensures, e)
 
 pub keep-connection-spec : {M : Type 1} → statement M
 keep-connection-spec =

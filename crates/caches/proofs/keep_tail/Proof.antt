@@ -33,8 +33,14 @@ same-length-3 c = search needs
 
 returns : tie.Need-returns
 returns c =
-    let e : c .before .before .before .before .before .before .before .before .before .before .before .before .before .before .with-bit0 .result ≡ withBit0 (getD (c .before .before .before .before .before .before .before .before .before .before .before .before .before .before .before .before .before .before .before .before .before .before .before .args .connected .now) (c .before .before .before .before .before .before .before .before .before .before .before .before .before .before .before .before .before .before .before .before .before .before .before .args .head .0) 0) false = c .before .before .before .before .before .before .before .before .before .before .before .before .before .before .with-bit0 .ensures ∙ rw (c .before .before .before .before .before .before .before .before .before .before .before .before .before .before .before .byte-at .ensures) in
-    rw (c .before .before .keep-missing-hash .ensures, c .before .before .before .before .before .before .before .before .put-byte .ensures, c .before .before .before .before .before .before .before .before .before .before .before .before .put-word .ensures, e)
+    let args = let p : tie.Start = search in p .args in
+    let byte-at = let p : tie.After-byte-at = search in p .byte-at in
+    let with-bit0 = let p : tie.After-with-bit0 = search in p .with-bit0 in
+    let put-word = let p : tie.After-put-word = search in p .put-word in
+    let put-byte = let p : tie.After-put-byte = search in p .put-byte in
+    let keep-missing-hash = let p : tie.After-keep-missing-hash = search in p .keep-missing-hash in
+    let e : with-bit0 .result ≡ withBit0 (getD (args .connected .now) (args .head .0) 0) false = with-bit0 .ensures ∙ rw (byte-at .ensures) in
+    rw (keep-missing-hash .ensures, put-byte .ensures, put-word .ensures, e)
 
 pub keep-tail-spec : {M : Type 1} → statement M
 keep-tail-spec =

@@ -39,8 +39,12 @@ same-length-4 c = search needs
 returns : tie.Need-returns
 unfolding recompute keep
 returns c =
-    let f = sym (c .before .before .before .before .before .before .before .before .before .before .before .before .before .before .before .before .locate-anchor .ensures) ∙ ap anchorLocated (c .before .before .before .before .before .before .before .before .before .before .before .before .before .before .at .given .1) in
-    rw (← c .before .before .before .before .before .before .before .before .before .before .before .before .before .before .before .before .before .word-at .ensures, f) (c .before .before .before .before .before .before .before .before .keep-connection .ensures)
+    let word-at = let p : tie.After-word-at = search in p .word-at in
+    let locate-anchor = let p : tie.After-locate-anchor = search in p .locate-anchor in
+    let at-call = let p : tie.After-at = search in p .at in
+    let keep-connection = let p : tie.After-keep-connection = search in p .keep-connection in
+    let f = sym (locate-anchor .ensures) ∙ ap anchorLocated (at-call .given .1) in
+    rw (← word-at .ensures, f) (keep-connection .ensures)
 
 same-length-5 : tie.Need-same-length-5
 same-length-5 c = search needs
@@ -57,8 +61,12 @@ same-length-8 c = search needs
 returns-2 : tie.Need-returns-2
 unfolding recompute keep
 returns-2 c =
-    let f = sym (c .before .before .before .before .before .before .before .before .before .before .before .before .before .before .locate-anchor .ensures) ∙ ap anchorLocated (c .before .before .before .before .before .before .before .before .before .before .before .before .at2 .given .1) in
-    rw (← c .before .before .before .before .before .before .before .before .before .before .before .before .before .before .before .word-at .ensures, f) (c .before .before .before .before .before .before .keep-tail .ensures)
+    let word-at = let p : tie.After-word-at = search in p .word-at in
+    let locate-anchor = let p : tie.After-locate-anchor = search in p .locate-anchor in
+    let at2 = let p : tie.After-at2 = search in p .at2 in
+    let keep-tail = let p : tie.After-keep-tail = search in p .keep-tail in
+    let f = sym (locate-anchor .ensures) ∙ ap anchorLocated (at2 .given .1) in
+    rw (← word-at .ensures, f) (keep-tail .ensures)
 
 pub recompute-caches-spec : {M : Type 1} → statement M
 recompute-caches-spec =

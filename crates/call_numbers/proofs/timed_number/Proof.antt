@@ -34,7 +34,11 @@ same-length-2 : tie.Need-same-length-2
 same-length-2 c = search needs
 
 returns : tie.Need-returns
-returns c = rw (c .before .before .before .before .before .before .before .before .before .before .timed .given .1) ((refl, (c .before .before .before .before .before .before .before .put-word .ensures, c .before .before .before .put-hash .ensures)))
+returns c =
+    let timed = let p : tie.After-timed = search in p .timed in
+    let put-word = let p : tie.After-put-word = search in p .put-word in
+    let put-hash = let p : tie.After-put-hash = search in p .put-hash in
+    rw (timed .given .1) ((refl, (put-word .ensures, put-hash .ensures)))
 
 returns-2 : tie.Need-returns-2
 returns-2 c = search needs

@@ -14,7 +14,8 @@ use Rattle.cells.proofs.eight_differ.Statement.{statement}
 use Rattle.cells.proofs.eight_differ.Tie as tie
 
 abbrev Inv-loop : tie.InvT-loop
-Inv-loop words from value first differ₀ j₀ differ j = (first ≡ from) × ((j ≤ 8) × (differ ≡ true → (i : ℕ) → i < j → getD words (from + i) NONE ≢ value))
+Inv-loop words from value first differ₀ j₀ differ j = (first ≡ from) × ((j ≤ 8) ×
+    (differ ≡ true → (i : ℕ) → i < j → getD words (from + i) NONE ≢ value))
 
 abbrev μ-loop : tie.MeasureT-loop
 μ-loop words from value first differ₀ j₀ differ j = 8 - j
@@ -41,7 +42,10 @@ mul-if2 : tie.Need-mul-if2 Inv-loop μ-loop
 mul-if2 c = omega arith
 
 shared-slice-read-if2 : tie.Need-shared-slice-read-if2 Inv-loop μ-loop
-shared-slice-read-if2 c = omega (arith, c .before .before .before .before .slots .ensures, slots-few (c .before .before .before .before .before .before .args .words .now))
+shared-slice-read-if2 c =
+    let args = let p : tie.Start Inv-loop μ-loop = search in p .args in
+    let slots = let p : tie.After-slots Inv-loop μ-loop = search in p .slots in
+    omega (arith, slots .ensures, slots-few (args .words .now))
 
 add-j : tie.Need-add-j Inv-loop μ-loop
 add-j c = omega arith
@@ -51,15 +55,17 @@ loop-less c = omega arith
 
 loop-again : tie.Need-loop-again Inv-loop μ-loop
 loop-again c =
-    let a = c .before .before .before .before .before .before .before .args in
-    let l = c .before .before .before .loop in (
+    let slots = let p : tie.After-slots Inv-loop μ-loop = search in p .slots in
+    let a = let p : tie.Start Inv-loop μ-loop = search in p .args in
+    let l = let p : tie.At-loop Inv-loop μ-loop = search in p .loop in (
       refl,
       (
         omega arith,
         ⊎-elim
             (λ w t. true-not-false t (w .1))
             (λ w t i lt. same? i (l .j)
-            (λ q n. w .0 .left (getD-any (a .words .now) (a .from + l .j) 0 NONE (omega (arith, c .before .before .before .before .before .slots .ensures, slots-few (a .words .now))) ∙ rw (← q) n))
+            (λ q n. w .0 .left
+            (getD-any (a .words .now) (a .from + l .j) 0 NONE (omega (arith, slots .ensures, slots-few (a .words .now))) ∙ rw (← q) n))
             (λ ne. l .inv .1 .1 (sym (w .1) ∙ t) i (omega arith)))
             (c .if2 .came),
       ),
@@ -67,9 +73,11 @@ loop-again c =
 
 returns-2 : tie.Need-returns-2 Inv-loop μ-loop
 returns-2 c =
+    let slots = let p : tie.After-slots Inv-loop μ-loop = search in p .slots in
+    let loop = let p : tie.At-loop Inv-loop μ-loop = search in p .loop in
     λ t. (
-      omega (arith, c .before .before .before .slots .ensures),
-      λ j lt. c .before .loop .inv .1 .1 t j (omega arith),
+      omega (arith, slots .ensures),
+      λ j lt. loop .inv .1 .1 t j (omega arith),
     )
 
 pub eight-differ-spec : {M : Type 1} → statement M

@@ -30,9 +30,16 @@ is-child-requires c κs = tt
 returns : tie.Need-returns Inv-loop μ-loop
 unfolding childless children
 returns c =
-    let test = childOf (c .before .before .before .before .before .before .before .args .parents .now) (c .before .before .before .before .before .before .before .args .sequences .now) (c .before .before .before .before .before .before .before .args .slot .0) in
-    let n = slotsOf (c .before .before .before .before .before .before .before .args .sequences .now) in
-    let h : countBelow test n ≢ 0 = omega (arith, count-some test n (c .before .before .before .loop .i) (omega (arith, c .before .before .before .before .slots .ensures)) (sym (c .before .is-child .ensures) ∙ c .if1 .taken)) in
+    let args = let p : tie.Start Inv-loop μ-loop = search in p .args in
+    let slots = let p : tie.After-slots Inv-loop μ-loop = search in p .slots in
+    let loop = let p : tie.At-loop Inv-loop μ-loop = search in p .loop in
+    let is-child = let p : tie.After-is-child Inv-loop μ-loop = search in p .is-child in
+    let test = childOf (args .parents .now) (args .sequences .now) (args .slot .0) in
+    let n = slotsOf (args .sequences .now) in
+    let h : countBelow test n ≢ 0 = omega (
+      arith,
+      count-some test n (loop .i) (omega (arith, slots .ensures)) (sym (is-child .ensures) ∙ c .if1 .taken),
+    ) in
     rw (ne-eqb (countBelow test n) 0 h)
 
 add-i : tie.Need-add-i Inv-loop μ-loop
@@ -42,7 +49,10 @@ loop-less : tie.Need-loop-less Inv-loop μ-loop
 loop-less c = omega arith
 
 loop-again : tie.Need-loop-again Inv-loop μ-loop
-loop-again c = (omega arith, count-fails _ (c .before .before .before .loop .i) (sym (c .before .is-child .ensures) ∙ c .if1 .left) ∙ c .before .before .before .loop .inv .1)
+loop-again c =
+    let loop = let p : tie.At-loop Inv-loop μ-loop = search in p .loop in
+    let is-child = let p : tie.After-is-child Inv-loop μ-loop = search in p .is-child in
+    (omega arith, count-fails _ (loop .i) (sym (is-child .ensures) ∙ c .if1 .left) ∙ loop .inv .1)
 
 returns-2 : tie.Need-returns-2 Inv-loop μ-loop
 unfolding childless children

@@ -1,4 +1,6 @@
 -- Five fills.
+use native.Mathlib.Omega.{arith}
+use Rattle.rules.proofs.Places.{the}
 use Rattle.empties.proofs.empty_blocks.Statement.{statement}
 use Rattle.empties.proofs.empty_blocks.Tie as tie
 
@@ -18,22 +20,28 @@ fill-bytes-requires-3 : tie.Need-fill-bytes-requires-3
 fill-bytes-requires-3 c κs = tt
 
 same-length : tie.Need-same-length
-same-length c = c .before .before .before .before .before .before .before .before .before .before .before .before .before .before .before .before .before .before .fill-bytes .kept .0
+same-length c = omega (arith, the tie.After-fill-bytes (search) .fill-bytes .kept)
 
 same-length-2 : tie.Need-same-length-2
-same-length-2 c = c .before .before .before .before .before .before .before .before .before .before .before .before .before .before .fill-words .kept .0
+same-length-2 c = omega (arith, the tie.After-fill-words (search) .fill-words .kept)
 
 same-length-3 : tie.Need-same-length-3
-same-length-3 c = c .before .before .before .before .before .before .before .before .before .before .fill-words2 .kept .0
+same-length-3 c = omega (arith, the tie.After-fill-words2 (search) .fill-words2 .kept)
 
 same-length-4 : tie.Need-same-length-4
-same-length-4 c = c .before .before .before .before .before .before .fill-bytes2 .kept .0
+same-length-4 c = omega (arith, the tie.After-fill-bytes2 (search) .fill-bytes2 .kept)
 
 same-length-5 : tie.Need-same-length-5
-same-length-5 c = c .before .before .fill-bytes3 .kept .0
+same-length-5 c = omega arith
 
 returns : tie.Need-returns
-returns c = rw (c .before .before .before .before .before .before .before .before .before .before .before .before .before .before .before .before .before .before .fill-bytes .ensures, c .before .before .before .before .before .before .before .before .before .before .before .before .before .before .fill-words .ensures, c .before .before .before .before .before .before .before .before .before .before .fill-words2 .ensures, c .before .before .before .before .before .before .fill-bytes2 .ensures, c .before .before .fill-bytes3 .ensures)
+returns c =
+    let fill-bytes = let p : tie.After-fill-bytes = search in p .fill-bytes in
+    let fill-words = let p : tie.After-fill-words = search in p .fill-words in
+    let fill-words2 = let p : tie.After-fill-words2 = search in p .fill-words2 in
+    let fill-bytes2 = let p : tie.After-fill-bytes2 = search in p .fill-bytes2 in
+    let fill-bytes3 = let p : tie.After-fill-bytes3 = search in p .fill-bytes3 in
+    rw (fill-bytes .ensures, fill-words .ensures, fill-words2 .ensures, fill-bytes2 .ensures, fill-bytes3 .ensures)
 
 pub empty-blocks-spec : {M : Type 1} → statement M
 empty-blocks-spec =

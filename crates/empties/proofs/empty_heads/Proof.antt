@@ -1,4 +1,6 @@
 -- Six fills.
+use native.Mathlib.Omega.{arith}
+use Rattle.rules.proofs.Places.{the}
 use Rattle.empties.proofs.empty_heads.Statement.{statement}
 use Rattle.empties.proofs.empty_heads.Tie as tie
 
@@ -21,25 +23,32 @@ fill-bytes-requires-2 : tie.Need-fill-bytes-requires-2
 fill-bytes-requires-2 c κs = tt
 
 same-length : tie.Need-same-length
-same-length c = c .before .before .before .before .before .before .before .before .before .before .before .before .before .before .before .before .before .before .before .before .before .before .fill-words .kept .0
+same-length c = omega (arith, the tie.After-fill-words (search) .fill-words .kept)
 
 same-length-2 : tie.Need-same-length-2
-same-length-2 c = c .before .before .before .before .before .before .before .before .before .before .before .before .before .before .before .before .before .before .fill-words2 .kept .0
+same-length-2 c = omega (arith, the tie.After-fill-words2 (search) .fill-words2 .kept)
 
 same-length-3 : tie.Need-same-length-3
-same-length-3 c = c .before .before .before .before .before .before .before .before .before .before .before .before .before .before .fill-bytes .kept .0
+same-length-3 c = omega (arith, the tie.After-fill-bytes (search) .fill-bytes .kept)
 
 same-length-4 : tie.Need-same-length-4
-same-length-4 c = c .before .before .before .before .before .before .before .before .before .before .fill-times .kept .0
+same-length-4 c = omega (arith, the tie.After-fill-times (search) .fill-times .kept)
 
 same-length-5 : tie.Need-same-length-5
-same-length-5 c = c .before .before .before .before .before .before .fill-times2 .kept .0
+same-length-5 c = omega (arith, the tie.After-fill-times2 (search) .fill-times2 .kept)
 
 same-length-6 : tie.Need-same-length-6
-same-length-6 c = c .before .before .fill-bytes2 .kept .0
+same-length-6 c = omega arith
 
 returns : tie.Need-returns
-returns c = rw (c .before .before .before .before .before .before .before .before .before .before .before .before .before .before .before .before .before .before .before .before .before .before .fill-words .ensures, c .before .before .before .before .before .before .before .before .before .before .before .before .before .before .before .before .before .before .fill-words2 .ensures, c .before .before .before .before .before .before .before .before .before .before .before .before .before .before .fill-bytes .ensures, c .before .before .before .before .before .before .before .before .before .before .fill-times .ensures, c .before .before .before .before .before .before .fill-times2 .ensures, c .before .before .fill-bytes2 .ensures)
+returns c =
+    let fill-words = let p : tie.After-fill-words = search in p .fill-words in
+    let fill-words2 = let p : tie.After-fill-words2 = search in p .fill-words2 in
+    let fill-bytes = let p : tie.After-fill-bytes = search in p .fill-bytes in
+    let fill-times = let p : tie.After-fill-times = search in p .fill-times in
+    let fill-times2 = let p : tie.After-fill-times2 = search in p .fill-times2 in
+    let fill-bytes2 = let p : tie.After-fill-bytes2 = search in p .fill-bytes2 in
+    rw (fill-words .ensures, fill-words2 .ensures, fill-bytes .ensures, fill-times .ensures, fill-times2 .ensures, fill-bytes2 .ensures)
 
 pub empty-heads-spec : {M : Type 1} → statement M
 empty-heads-spec =

@@ -11,13 +11,16 @@ use Rattle.freeing.proofs.free_all.Tie as tie
 
 abbrev Inv-loop : tie.InvT-loop
 Inv-loop hashes₀ parents₀ sequences₀ counts₀ flags₀ deleted k₀ hashes parents sequences counts flags k =
-    (k ≤ length deleted) × (((length hashes ≡ length hashes₀) × ((length parents ≡ length parents₀) × ((length sequences ≡ length sequences₀) × ((length counts ≡ length counts₀) × (length flags ≡ length flags₀))))) × (freeAll (drop k deleted) (blocksOf hashes parents sequences counts flags) ≡ freeAll deleted (blocksOf hashes₀ parents₀ sequences₀ counts₀ flags₀)))
+    (k ≤ length deleted) × (((length hashes ≡ length hashes₀) × ((length parents ≡ length parents₀) × ((length sequences ≡ length sequences₀) ×
+    ((length counts ≡ length counts₀) × (length flags ≡ length flags₀))))) ×
+    (freeAll (drop k deleted) (blocksOf hashes parents sequences counts flags)
+    ≡ freeAll deleted (blocksOf hashes₀ parents₀ sequences₀ counts₀ flags₀)))
 
 abbrev μ-loop : tie.MeasureT-loop
 μ-loop hashes₀ parents₀ sequences₀ counts₀ flags₀ deleted k₀ hashes parents sequences counts flags k = length deleted - k
 
 loop-holds : tie.Need-loop-holds Inv-loop μ-loop
-loop-holds c = (omega arith, ((refl, (refl, (refl, (refl, refl)))), refl))
+loop-holds c = (omega arith, (omega arith, refl))
 
 mul-t8 : tie.Need-mul-t8 Inv-loop μ-loop
 mul-t8 c = omega arith
@@ -36,35 +39,38 @@ loop-less c = omega arith
 
 loop-again : tie.Need-loop-again Inv-loop μ-loop
 loop-again c =
-    let u = c .before .before .before .before .before .before .before .before .before .before .delete in
-    let l = c .before .before .before .before .before .before .before .before .before .before .before .before .before .before .before .before .before .before .loop in
+    let args = let p : tie.Start Inv-loop μ-loop = search in p .args in
+    let l = let p : tie.At-loop Inv-loop μ-loop = search in p .loop in
+    let u = let p : tie.After-delete Inv-loop μ-loop = search in p .delete in
     let b = blocksOf (l .hashes) (l .parents) (l .sequences) (l .counts) (l .flags) in (
       omega arith,
       (
-        (u .kept .0 ∙ l .inv .1 .0 .0, (u .kept .1 .0 ∙ l .inv .1 .0 .1 .0, (u .kept .1 .1 .0 ∙ l .inv .1 .0 .1 .1 .0, (u .kept .1 .1 .1 .0 ∙ l .inv .1 .0 .1 .1 .1 .0, u .kept .1 .1 .1 .1 .0 ∙ l .inv .1 .0 .1 .1 .1 .1)))),
-        ap (freeAll (drop (l .k + 1) (c .before .before .before .before .before .before .before .before .before .before .before .before .before .before .before .before .before .before .before .before .before .before .before .before .before .args .deleted .now))) (u .ensures .1) ∙ sym (free-next (c .before .before .before .before .before .before .before .before .before .before .before .before .before .before .before .before .before .before .before .before .before .before .before .before .before .args .deleted .now) (l .k) b (omega arith)) ∙ l .inv .1 .1,
+        omega (arith, u .kept, l .inv),
+        ap (freeAll (drop (l .k + 1) (args .deleted .now))) (u .ensures .1) ∙ sym (free-next (args .deleted .now) (l .k) b (omega arith))
+            ∙ l .inv .1 .1,
       ),
     )
 
 same-length : tie.Need-same-length Inv-loop μ-loop
-same-length c = c .before .loop .inv .1 .0 .0
+same-length c = omega arith
 
 same-length-2 : tie.Need-same-length-2 Inv-loop μ-loop
-same-length-2 c = c .before .loop .inv .1 .0 .1 .0
+same-length-2 c = omega arith
 
 same-length-3 : tie.Need-same-length-3 Inv-loop μ-loop
-same-length-3 c = c .before .loop .inv .1 .0 .1 .1 .0
+same-length-3 c = omega arith
 
 same-length-4 : tie.Need-same-length-4 Inv-loop μ-loop
-same-length-4 c = c .before .loop .inv .1 .0 .1 .1 .1 .0
+same-length-4 c = omega arith
 
 same-length-5 : tie.Need-same-length-5 Inv-loop μ-loop
-same-length-5 c = c .before .loop .inv .1 .0 .1 .1 .1 .1
+same-length-5 c = omega arith
 
 returns : tie.Need-returns Inv-loop μ-loop
 returns c =
-    let l = c .before .loop in
-    sym (free-end (c .before .before .before .before .before .before .before .before .args .deleted .now) (l .k) (blocksOf (l .hashes) (l .parents) (l .sequences) (l .counts) (l .flags)) (omega arith)) ∙ l .inv .1 .1
+    let args = let p : tie.Start Inv-loop μ-loop = search in p .args in
+    let l = let p : tie.At-loop Inv-loop μ-loop = search in p .loop in
+    sym (free-end (args .deleted .now) (l .k) (blocksOf (l .hashes) (l .parents) (l .sequences) (l .counts) (l .flags)) (omega arith)) ∙ l .inv .1 .1
 
 pub free-all-spec : {M : Type 1} → statement M
 free-all-spec =

@@ -1,12 +1,17 @@
 -- Everything emptied.
-use mathlib.Core.Path.{_≡_, refl, sym, _∙_}
-use mathlib.Core.Bool.{true, false}
+use native.Mathlib.Omega.{arith}
+use mathlib.Core.Path.{refl, sym, _∙_}
 use borrow.Author.Tests.{not-true, not-false}
-use Rattle.rules.specs.Records.{tablesOf}
-use Rattle.rules.specs.Calls.{shaped, freshState, fresh}
-use Rattle.empties.proofs.Empties.{blocks-empty, heads-empty}
+use Rattle.rules.proofs.Places.{the}
+use Rattle.fresh_call.proofs.Emptied.{misshapen, emptied}
 use Rattle.fresh_call.proofs.fresh_at.Statement.{statement}
 use Rattle.fresh_call.proofs.fresh_at.Tie as tie
+
+abbrev blocks-done : tie.After-empty-heads → tie.After-empty-blocks
+blocks-done c = search
+
+abbrev tested : tie.After-empty-blocks → tie.Else1
+tested c = search
 
 is-shaped-requires : tie.Need-is-shaped-requires
 is-shaped-requires c κs = tt
@@ -45,11 +50,10 @@ same-length-11 : tie.Need-same-length-11
 same-length-11 c = refl
 
 returns : tie.Need-returns
-unfolding fresh
 returns c =
-    let p = c .before .before .before .before .before .before .before .before .before .before .before .before .before .before .before .before .before .before .before .before .before .before .before .before .args in
-    let e : shaped (tablesOf (p .hashes .now) (p .parents .now) (p .sequences .now) (p .counts .now) (p .flags .now) (p .tips .now) (p .tails .now) (p .missing .now) (p .requested .now) (p .arrivals .now) (p .connected .now)) ≡ false = sym (c .before .is-shaped .ensures) ∙ not-true (c .before .is-shaped .result) (c .if1 .taken) in
-    (rw e, (rw e, rw e))
+    let b = the tie.Then1 (search) in
+    let s = b .before .is-shaped in
+    misshapen _ (sym (s .ensures) ∙ not-true (s .result) (b .if1 .taken))
 
 empty-blocks-requires : tie.Need-empty-blocks-requires
 empty-blocks-requires c κs = tt
@@ -58,44 +62,45 @@ empty-heads-requires : tie.Need-empty-heads-requires
 empty-heads-requires c κs = tt
 
 same-length-12 : tie.Need-same-length-12
-same-length-12 c = c .before .before .before .before .before .before .before .before .before .before .before .before .before .before .before .before .before .before .before .before .before .before .before .before .before .before .before .before .before .empty-blocks .kept .0
+same-length-12 c = let h = the tie.After-empty-heads (search) in omega (arith, h .empty-heads .kept, blocks-done h .empty-blocks .kept)
 
 same-length-13 : tie.Need-same-length-13
-same-length-13 c = c .before .before .before .before .before .before .before .before .before .before .before .before .before .before .before .before .before .before .before .before .before .before .before .before .before .before .before .before .before .empty-blocks .kept .1 .0
+same-length-13 c = let h = the tie.After-empty-heads (search) in omega (arith, h .empty-heads .kept, blocks-done h .empty-blocks .kept)
 
 same-length-14 : tie.Need-same-length-14
-same-length-14 c = c .before .before .before .before .before .before .before .before .before .before .before .before .before .before .before .before .before .before .before .before .before .before .before .before .before .before .before .before .before .empty-blocks .kept .1 .1 .0
+same-length-14 c = let h = the tie.After-empty-heads (search) in omega (arith, h .empty-heads .kept, blocks-done h .empty-blocks .kept)
 
 same-length-15 : tie.Need-same-length-15
-same-length-15 c = c .before .before .before .before .before .before .before .before .before .before .before .before .before .before .before .before .before .before .before .before .before .before .before .before .before .before .before .before .before .empty-blocks .kept .1 .1 .1 .0
+same-length-15 c = let h = the tie.After-empty-heads (search) in omega (arith, h .empty-heads .kept, blocks-done h .empty-blocks .kept)
 
 same-length-16 : tie.Need-same-length-16
-same-length-16 c = c .before .before .before .before .before .before .before .before .before .before .before .before .before .before .before .before .before .before .before .before .before .before .before .before .before .before .before .before .before .empty-blocks .kept .1 .1 .1 .1 .0
+same-length-16 c = let h = the tie.After-empty-heads (search) in omega (arith, h .empty-heads .kept, blocks-done h .empty-blocks .kept)
 
 same-length-17 : tie.Need-same-length-17
-same-length-17 c = c .before .before .before .before .before .before .before .before .before .before .before .before .empty-heads .kept .0
+same-length-17 c = let h = the tie.After-empty-heads (search) in omega (arith, h .empty-heads .kept, blocks-done h .empty-blocks .kept)
 
 same-length-18 : tie.Need-same-length-18
-same-length-18 c = c .before .before .before .before .before .before .before .before .before .before .before .before .empty-heads .kept .1 .0
+same-length-18 c = let h = the tie.After-empty-heads (search) in omega (arith, h .empty-heads .kept, blocks-done h .empty-blocks .kept)
 
 same-length-19 : tie.Need-same-length-19
-same-length-19 c = c .before .before .before .before .before .before .before .before .before .before .before .before .empty-heads .kept .1 .1 .0
+same-length-19 c = let h = the tie.After-empty-heads (search) in omega (arith, h .empty-heads .kept, blocks-done h .empty-blocks .kept)
 
 same-length-20 : tie.Need-same-length-20
-same-length-20 c = c .before .before .before .before .before .before .before .before .before .before .before .before .empty-heads .kept .1 .1 .1 .0
+same-length-20 c = let h = the tie.After-empty-heads (search) in omega (arith, h .empty-heads .kept, blocks-done h .empty-blocks .kept)
 
 same-length-21 : tie.Need-same-length-21
-same-length-21 c = c .before .before .before .before .before .before .before .before .before .before .before .before .empty-heads .kept .1 .1 .1 .1 .0
+same-length-21 c = let h = the tie.After-empty-heads (search) in omega (arith, h .empty-heads .kept, blocks-done h .empty-blocks .kept)
 
 same-length-22 : tie.Need-same-length-22
-same-length-22 c = c .before .before .before .before .before .before .before .before .before .before .before .before .empty-heads .kept .1 .1 .1 .1 .1 .0
+same-length-22 c = let h = the tie.After-empty-heads (search) in omega (arith, h .empty-heads .kept, blocks-done h .empty-blocks .kept)
 
 returns-2 : tie.Need-returns-2
-unfolding fresh freshState
 returns-2 c =
-    let p = c .before .before .before .before .before .before .before .before .before .before .before .before .before .before .before .before .before .before .before .before .before .before .before .before .before .before .before .before .before .before .before .before .before .before .before .before .before .before .before .before .before .before .before .before .before .before .before .before .before .before .before .before .before .before .before .before .before .before .before .args in
-    let e : shaped (tablesOf (p .hashes .now) (p .parents .now) (p .sequences .now) (p .counts .now) (p .flags .now) (p .tips .now) (p .tails .now) (p .missing .now) (p .requested .now) (p .arrivals .now) (p .connected .now)) ≡ true = sym (c .before .before .before .before .before .before .before .before .before .before .before .before .before .before .before .before .before .before .before .before .before .before .before .before .before .before .before .before .before .before .before .before .before .before .before .before .is-shaped .ensures) ∙ not-false (c .before .before .before .before .before .before .before .before .before .before .before .before .before .before .before .before .before .before .before .before .before .before .before .before .before .before .before .before .before .before .before .before .before .before .before .before .is-shaped .result) (c .before .before .before .before .before .before .before .before .before .before .before .before .before .before .before .before .before .before .before .before .before .before .before .before .before .before .before .before .before .before .before .before .before .before .before .if1 .left) in
-    (rw e, (rw e, rw (e, c .before .before .before .before .before .before .before .before .before .before .before .before .before .before .before .before .before .before .before .before .before .before .before .before .before .before .before .before .before .empty-blocks .ensures, c .before .before .before .before .before .before .before .before .before .before .before .before .empty-heads .ensures, blocks-empty (tablesOf (p .hashes .now) (p .parents .now) (p .sequences .now) (p .counts .now) (p .flags .now) (p .tips .now) (p .tails .now) (p .missing .now) (p .requested .now) (p .arrivals .now) (p .connected .now)) e, heads-empty (tablesOf (p .hashes .now) (p .parents .now) (p .sequences .now) (p .counts .now) (p .flags .now) (p .tips .now) (p .tails .now) (p .missing .now) (p .requested .now) (p .arrivals .now) (p .connected .now)) e)))
+    let h = the tie.After-empty-heads (search) in
+    let b = blocks-done h in
+    let e = tested b in
+    let s = e .before .is-shaped in
+    emptied _ _ _ (sym (s .ensures) ∙ not-false (s .result) (e .if1 .left)) (b .empty-blocks .ensures) (h .empty-heads .ensures)
 
 pub fresh-at-spec : {M : Type 1} → statement M
 fresh-at-spec =

@@ -1,8 +1,18 @@
 -- Room first, then the seat.
-use mathlib.Core.Path.{_∙_}
-use Rattle.rules.specs.Admission.{insertHead}
+use native.Mathlib.Omega.{arith}
+use mathlib.Core.Path.{_≡_, _∙_}
+use mathlib.Core.List.{List}
+use Prim.Native.Nat.{ℕ}
+use Rattle.rules.specs.Records.{Tables}
+use Rattle.rules.specs.Admission.{makeRoom, seatHead, insertHead}
 use Rattle.head_insertion.proofs.insert_head.Statement.{statement}
 use Rattle.head_insertion.proofs.insert_head.Tie as tie
+
+abbrev to-tails : tie.After-seat-head → tie.After-tails
+to-tails c = search
+
+abbrev to-make-room : tie.After-tails → tie.After-make-room
+to-make-room c = search
 
 make-room-requires : tie.Need-make-room-requires
 make-room-requires c κs = tt
@@ -11,41 +21,70 @@ seat-head-requires : tie.Need-seat-head-requires
 seat-head-requires c κs = tt
 
 same-length : tie.Need-same-length
-same-length c = c .before .before .before .before .before .before .before .before .before .before .before .before .before .before .before .before .before .before .before .before .before .before .before .before .before .before .before .before .before .before .before .before .before .before .before .before .before .before .before .before .before .before .before .before .before .before .make-room .kept .0
+same-length c =
+    let p : tie.After-seat-head = search in
+    omega (arith, p .seat-head .kept, to-make-room (to-tails p) .make-room .kept)
 
 same-length-2 : tie.Need-same-length-2
-same-length-2 c = c .before .before .before .before .before .before .before .before .before .before .before .before .before .before .before .before .before .before .before .before .before .before .before .before .before .before .before .before .before .before .before .before .before .before .before .before .before .before .before .before .before .before .before .before .before .before .make-room .kept .1 .0
+same-length-2 c =
+    let p : tie.After-seat-head = search in
+    omega (arith, p .seat-head .kept, to-make-room (to-tails p) .make-room .kept)
 
 same-length-3 : tie.Need-same-length-3
-same-length-3 c = c .before .before .before .before .before .before .before .before .before .before .before .before .before .before .before .before .before .before .before .before .before .before .before .before .before .before .before .before .before .before .before .before .before .before .before .before .before .before .before .before .before .before .before .before .before .before .make-room .kept .1 .1 .0
+same-length-3 c =
+    let p : tie.After-seat-head = search in
+    omega (arith, p .seat-head .kept, to-make-room (to-tails p) .make-room .kept)
 
 same-length-4 : tie.Need-same-length-4
-same-length-4 c = c .before .before .before .before .before .before .before .before .before .before .before .before .before .before .before .before .before .before .before .before .before .before .before .before .before .before .before .before .before .before .before .before .before .before .before .before .before .before .before .before .before .before .before .before .before .before .make-room .kept .1 .1 .1 .0
+same-length-4 c =
+    let p : tie.After-seat-head = search in
+    omega (arith, p .seat-head .kept, to-make-room (to-tails p) .make-room .kept)
 
 same-length-5 : tie.Need-same-length-5
-same-length-5 c = c .before .before .before .before .before .before .before .before .before .before .before .before .before .before .before .before .before .before .before .before .before .before .before .before .before .before .before .before .before .before .before .before .before .before .before .before .before .before .before .before .before .before .before .before .before .before .make-room .kept .1 .1 .1 .1 .0
+same-length-5 c =
+    let p : tie.After-seat-head = search in
+    omega (arith, p .seat-head .kept, to-make-room (to-tails p) .make-room .kept)
 
 same-length-6 : tie.Need-same-length-6
-same-length-6 c = c .before .before .before .before .before .before .before .before .before .before .before .before .seat-head .kept .1 .1 .1 .1 .1 .0 ∙ c .before .before .before .before .before .before .before .before .before .before .before .before .before .before .before .before .before .before .before .before .before .before .before .before .before .before .before .before .before .before .before .before .before .before .before .before .before .before .before .before .before .before .before .before .before .before .make-room .kept .1 .1 .1 .1 .1 .0
+same-length-6 c =
+    let p : tie.After-seat-head = search in
+    omega (arith, p .seat-head .kept, to-make-room (to-tails p) .make-room .kept)
 
 same-length-7 : tie.Need-same-length-7
-same-length-7 c = c .before .before .before .before .before .before .before .before .before .before .before .before .seat-head .kept .1 .1 .1 .1 .1 .1 .0 ∙ c .before .before .before .before .before .before .before .before .before .before .before .before .before .before .before .before .before .before .before .before .before .before .before .before .before .before .before .before .before .before .before .before .before .before .before .before .before .before .before .before .before .before .before .before .before .before .make-room .kept .1 .1 .1 .1 .1 .1 .0
+same-length-7 c =
+    let p : tie.After-seat-head = search in
+    omega (arith, p .seat-head .kept, to-make-room (to-tails p) .make-room .kept)
 
 same-length-8 : tie.Need-same-length-8
-same-length-8 c = c .before .before .before .before .before .before .before .before .before .before .before .before .seat-head .kept .1 .1 .1 .1 .1 .1 .1 .0 ∙ c .before .before .before .before .before .before .before .before .before .before .before .before .before .before .before .before .before .before .before .before .before .before .before .before .before .before .before .before .before .before .before .before .before .before .before .before .before .before .before .before .before .before .before .before .before .before .make-room .kept .1 .1 .1 .1 .1 .1 .1 .0
+same-length-8 c =
+    let p : tie.After-seat-head = search in
+    omega (arith, p .seat-head .kept, to-make-room (to-tails p) .make-room .kept)
 
 same-length-9 : tie.Need-same-length-9
-same-length-9 c = c .before .before .before .before .before .before .before .before .before .before .before .before .seat-head .kept .1 .1 .1 .1 .1 .1 .1 .1 .0 ∙ c .before .before .before .before .before .before .before .before .before .before .before .before .before .before .before .before .before .before .before .before .before .before .before .before .before .before .before .before .before .before .before .before .before .before .before .before .before .before .before .before .before .before .before .before .before .before .make-room .kept .1 .1 .1 .1 .1 .1 .1 .1 .0
+same-length-9 c =
+    let p : tie.After-seat-head = search in
+    omega (arith, p .seat-head .kept, to-make-room (to-tails p) .make-room .kept)
 
 same-length-10 : tie.Need-same-length-10
-same-length-10 c = c .before .before .before .before .before .before .before .before .before .before .before .before .seat-head .kept .1 .1 .1 .1 .1 .1 .1 .1 .1 .0 ∙ c .before .before .before .before .before .before .before .before .before .before .before .before .before .before .before .before .before .before .before .before .before .before .before .before .before .before .before .before .before .before .before .before .before .before .before .before .before .before .before .before .before .before .before .before .before .before .make-room .kept .1 .1 .1 .1 .1 .1 .1 .1 .1 .0
+same-length-10 c =
+    let p : tie.After-seat-head = search in
+    omega (arith, p .seat-head .kept, to-make-room (to-tails p) .make-room .kept)
 
 same-length-11 : tie.Need-same-length-11
-same-length-11 c = c .before .before .before .before .before .before .before .before .before .before .before .before .seat-head .kept .1 .1 .1 .1 .1 .1 .1 .1 .1 .1 .0 ∙ c .before .before .before .before .before .before .before .before .before .before .before .before .before .before .before .before .before .before .before .before .before .before .before .before .before .before .before .before .before .before .before .before .before .before .before .before .before .before .before .before .before .before .before .before .before .before .make-room .kept .1 .1 .1 .1 .1 .1 .1 .1 .1 .1 .0
+same-length-11 c =
+    let p : tie.After-seat-head = search in
+    omega (arith, p .seat-head .kept, to-make-room (to-tails p) .make-room .kept)
+
+-- the two steps as one, of any tables
+steps : (t u v : Tables) (tip arrival arriving : ℕ) (previous : List ℕ) (active : ℕ)
+    → u ≡ makeRoom t active → v ≡ seatHead u tip arrival arriving previous → v ≡ insertHead t tip arrival arriving previous active
+unfolding insertHead
+steps t u v tip arrival arriving previous active e f = f ∙ rw e
 
 returns : tie.Need-returns
-unfolding insertHead
-returns c = c .before .before .before .before .before .before .before .before .before .before .before .before .seat-head .ensures ∙ rw (c .before .before .before .before .before .before .before .before .before .before .before .before .before .before .before .before .before .before .before .before .before .before .before .before .before .before .before .before .before .before .before .before .before .before .before .before .before .before .before .before .before .before .before .before .before .before .make-room .ensures)
+returns c =
+    let s : tie.After-seat-head = search in
+    steps _ _ _ _ _ _ _ _ (to-make-room (to-tails s) .make-room .ensures) (s .seat-head .ensures)
 
 pub insert-head-spec : {M : Type 1} → statement M
 insert-head-spec =

@@ -1,8 +1,10 @@
 -- By whether a slot is empty.
+use native.Mathlib.Omega.{arith}
 use mathlib.Core.Path.{refl, sym, ap, _∙_}
 use Rattle.rules.specs.Answers.{headFound}
 use Rattle.rules.specs.Admission.{seatHead}
 use borrow.Author.Needs.{needs}
+use Rattle.rules.proofs.Places.{the}
 use Rattle.head_insertion.proofs.seat_head.Statement.{statement}
 use Rattle.head_insertion.proofs.seat_head.Tie as tie
 
@@ -28,28 +30,31 @@ returns c =
     rw (f, seatHead)
 
 same-length-2 : tie.Need-same-length-2
-same-length-2 c = c .before .before .before .before .before .before .before .before .before .before .before .before .seat-at .kept .1 .1 .1 .0
+same-length-2 c = omega (arith, the tie.After-seat-at (search) .seat-at .kept)
 
 same-length-3 : tie.Need-same-length-3
-same-length-3 c = c .before .before .before .before .before .before .before .before .before .before .before .before .seat-at .kept .1 .1 .1 .1 .0
+same-length-3 c = omega (arith, the tie.After-seat-at (search) .seat-at .kept)
 
 same-length-4 : tie.Need-same-length-4
-same-length-4 c = c .before .before .before .before .before .before .before .before .before .before .before .before .seat-at .kept .1 .1 .1 .1 .1 .0
+same-length-4 c = omega (arith, the tie.After-seat-at (search) .seat-at .kept)
 
 same-length-5 : tie.Need-same-length-5
-same-length-5 c = c .before .before .before .before .before .before .before .before .before .before .before .before .seat-at .kept .1 .1 .1 .1 .1 .1 .0
+same-length-5 c = omega (arith, the tie.After-seat-at (search) .seat-at .kept)
 
 same-length-6 : tie.Need-same-length-6
-same-length-6 c = c .before .before .before .before .before .before .before .before .before .before .before .before .seat-at .kept .1 .1 .1 .1 .1 .1 .1 .0
+same-length-6 c = omega (arith, the tie.After-seat-at (search) .seat-at .kept)
 
 same-length-7 : tie.Need-same-length-7
-same-length-7 c = c .before .before .before .before .before .before .before .before .before .before .before .before .seat-at .kept .1 .1 .1 .1 .1 .1 .1 .1 .0
+same-length-7 c = omega (arith, the tie.After-seat-at (search) .seat-at .kept)
 
 returns-2 : tie.Need-returns-2
 unfolding seatHead
 returns-2 c =
-    let f = sym (c .before .before .before .before .before .before .before .before .before .before .before .before .before .before .before .before .before .before .before .before .before .before .first-empty .ensures) ∙ ap headFound (c .before .before .before .before .before .before .before .before .before .before .before .before .before .before .before .before .before .before .before .before .slot .given .1) in
-    rw (f, seatHead) (rw (c .before .before .before .before .before .before .before .before .before .before .before .before .seat-at .ensures))
+    let first-empty = let p : tie.After-first-empty = search in p .first-empty in
+    let slot = let p : tie.After-slot = search in p .slot in
+    let seat-at = let p : tie.After-seat-at = search in p .seat-at in
+    let f = sym (first-empty .ensures) ∙ ap headFound (slot .given .1) in
+    rw (f, seatHead) (rw (seat-at .ensures))
 
 pub seat-head-spec : {M : Type 1} → statement M
 seat-head-spec =

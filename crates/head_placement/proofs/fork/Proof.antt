@@ -1,9 +1,17 @@
 -- The parent's count, then the head.
-use mathlib.Core.Path.{_∙_}
-use Rattle.rules.specs.BlockTable.{adjust}
-use Rattle.rules.specs.Admission.{fork}
+use native.Mathlib.Omega.{arith}
+use mathlib.Core.Path.{_≡_, _∙_}
+use mathlib.Core.List.{List}
+use Prim.Native.Nat.{ℕ}
+use lib.IntN.{pos}
+use Rattle.rules.specs.Records.{Tables, withCounts}
+use Rattle.rules.specs.BlockTable.{adjust, adjustCounts}
+use Rattle.rules.specs.Admission.{insertHead, fork}
 use Rattle.head_placement.proofs.fork.Statement.{statement}
 use Rattle.head_placement.proofs.fork.Tie as tie
+
+abbrev to-adjust-head-ref-count : tie.After-insert-head → tie.After-adjust-head-ref-count
+to-adjust-head-ref-count c = search
 
 adjust-head-ref-count-requires : tie.Need-adjust-head-ref-count-requires
 adjust-head-ref-count-requires c κs = tt
@@ -12,41 +20,72 @@ insert-head-requires : tie.Need-insert-head-requires
 insert-head-requires c κs = tt
 
 same-length : tie.Need-same-length
-same-length c = c .before .before .before .before .before .before .before .before .before .before .before .before .before .before .before .before .before .before .before .before .before .before .insert-head .kept .0
+same-length c =
+    let p : tie.After-insert-head = search in
+    omega (arith, p .insert-head .kept, to-adjust-head-ref-count p .adjust-head-ref-count .kept)
 
 same-length-2 : tie.Need-same-length-2
-same-length-2 c = c .before .before .before .before .before .before .before .before .before .before .before .before .before .before .before .before .before .before .before .before .before .before .insert-head .kept .1 .0
+same-length-2 c =
+    let p : tie.After-insert-head = search in
+    omega (arith, p .insert-head .kept, to-adjust-head-ref-count p .adjust-head-ref-count .kept)
 
 same-length-3 : tie.Need-same-length-3
-same-length-3 c = c .before .before .before .before .before .before .before .before .before .before .before .before .before .before .before .before .before .before .before .before .before .before .insert-head .kept .1 .1 .0
+same-length-3 c =
+    let p : tie.After-insert-head = search in
+    omega (arith, p .insert-head .kept, to-adjust-head-ref-count p .adjust-head-ref-count .kept)
 
 same-length-4 : tie.Need-same-length-4
-same-length-4 c = c .before .before .before .before .before .before .before .before .before .before .before .before .before .before .before .before .before .before .before .before .before .before .insert-head .kept .1 .1 .1 .0 ∙ c .before .before .before .before .before .before .before .before .before .before .before .before .before .before .before .before .before .before .before .before .before .before .before .before .before .before .before .before .before .before .before .before .before .before .before .before .adjust-head-ref-count .kept .1 .0
+same-length-4 c =
+    let p : tie.After-insert-head = search in
+    omega (arith, p .insert-head .kept, to-adjust-head-ref-count p .adjust-head-ref-count .kept)
 
 same-length-5 : tie.Need-same-length-5
-same-length-5 c = c .before .before .before .before .before .before .before .before .before .before .before .before .before .before .before .before .before .before .before .before .before .before .insert-head .kept .1 .1 .1 .1 .0
+same-length-5 c =
+    let p : tie.After-insert-head = search in
+    omega (arith, p .insert-head .kept, to-adjust-head-ref-count p .adjust-head-ref-count .kept)
 
 same-length-6 : tie.Need-same-length-6
-same-length-6 c = c .before .before .before .before .before .before .before .before .before .before .before .before .before .before .before .before .before .before .before .before .before .before .insert-head .kept .1 .1 .1 .1 .1 .0
+same-length-6 c =
+    let p : tie.After-insert-head = search in
+    omega (arith, p .insert-head .kept, to-adjust-head-ref-count p .adjust-head-ref-count .kept)
 
 same-length-7 : tie.Need-same-length-7
-same-length-7 c = c .before .before .before .before .before .before .before .before .before .before .before .before .before .before .before .before .before .before .before .before .before .before .insert-head .kept .1 .1 .1 .1 .1 .1 .0
+same-length-7 c =
+    let p : tie.After-insert-head = search in
+    omega (arith, p .insert-head .kept, to-adjust-head-ref-count p .adjust-head-ref-count .kept)
 
 same-length-8 : tie.Need-same-length-8
-same-length-8 c = c .before .before .before .before .before .before .before .before .before .before .before .before .before .before .before .before .before .before .before .before .before .before .insert-head .kept .1 .1 .1 .1 .1 .1 .1 .0
+same-length-8 c =
+    let p : tie.After-insert-head = search in
+    omega (arith, p .insert-head .kept, to-adjust-head-ref-count p .adjust-head-ref-count .kept)
 
 same-length-9 : tie.Need-same-length-9
-same-length-9 c = c .before .before .before .before .before .before .before .before .before .before .before .before .before .before .before .before .before .before .before .before .before .before .insert-head .kept .1 .1 .1 .1 .1 .1 .1 .1 .0
+same-length-9 c =
+    let p : tie.After-insert-head = search in
+    omega (arith, p .insert-head .kept, to-adjust-head-ref-count p .adjust-head-ref-count .kept)
 
 same-length-10 : tie.Need-same-length-10
-same-length-10 c = c .before .before .before .before .before .before .before .before .before .before .before .before .before .before .before .before .before .before .before .before .before .before .insert-head .kept .1 .1 .1 .1 .1 .1 .1 .1 .1 .0
+same-length-10 c =
+    let p : tie.After-insert-head = search in
+    omega (arith, p .insert-head .kept, to-adjust-head-ref-count p .adjust-head-ref-count .kept)
 
 same-length-11 : tie.Need-same-length-11
-same-length-11 c = c .before .before .before .before .before .before .before .before .before .before .before .before .before .before .before .before .before .before .before .before .before .before .insert-head .kept .1 .1 .1 .1 .1 .1 .1 .1 .1 .1 .0
+same-length-11 c =
+    let p : tie.After-insert-head = search in
+    omega (arith, p .insert-head .kept, to-adjust-head-ref-count p .adjust-head-ref-count .kept)
+
+-- the two steps as one, of any tables
+steps : (t v : Tables) (counts : List ℕ) (block parent : ℕ) (previous : List ℕ) (arrival active : ℕ)
+    → counts ≡ adjustCounts (t .blocks .sequences) (t .blocks .counts) parent (pos 1)
+    → v ≡ insertHead (record { blocks = withCounts (t .blocks) counts; heads = t .heads }) block arrival block previous active
+    → v ≡ fork t block parent previous arrival active
+unfolding fork adjust
+steps t v counts block parent previous arrival active e f = f ∙ rw e
 
 returns : tie.Need-returns
-unfolding fork adjust
-returns c = c .before .before .before .before .before .before .before .before .before .before .before .before .before .before .before .before .before .before .before .before .before .before .insert-head .ensures ∙ rw (c .before .before .before .before .before .before .before .before .before .before .before .before .before .before .before .before .before .before .before .before .before .before .before .before .before .before .before .before .before .before .before .before .before .before .before .before .adjust-head-ref-count .ensures .1)
+returns c =
+    let i : tie.After-insert-head = search in
+    steps _ _ _ _ _ _ _ _ (to-adjust-head-ref-count i .adjust-head-ref-count .ensures .1) (i .insert-head .ensures)
 
 pub fork-spec : {M : Type 1} → statement M
 fork-spec =

@@ -1,7 +1,14 @@
 -- Tip and arrival time, then the caches.
+use native.Mathlib.Omega.{arith}
 use Rattle.rules.specs.Admission.{moveUp}
 use Rattle.head_placement.proofs.move_up.Statement.{statement}
 use Rattle.head_placement.proofs.move_up.Tie as tie
+
+abbrev to-put-time : tie.After-recompute-caches → tie.After-put-time
+to-put-time c = search
+
+abbrev to-put-word : tie.After-put-time → tie.After-put-word
+to-put-word c = search
 
 put-word-requires : tie.Need-put-word-requires
 put-word-requires c κs = tt
@@ -13,26 +20,48 @@ recompute-caches-requires : tie.Need-recompute-caches-requires
 recompute-caches-requires c κs = tt
 
 same-length : tie.Need-same-length
-same-length c = c .before .before .before .before .before .before .before .before .before .before .before .before .before .before .before .before .before .before .before .before .put-word .kept .0
+same-length c =
+    let p : tie.After-recompute-caches = search in
+    let q = to-put-time p in
+    omega (arith, p .recompute-caches .kept, q .put-time .kept, to-put-word q .put-word .kept)
 
 same-length-2 : tie.Need-same-length-2
-same-length-2 c = c .before .before .before .before .before .before .before .before .recompute-caches .kept .1 .1 .1 .1 .0
+same-length-2 c =
+    let p : tie.After-recompute-caches = search in
+    let q = to-put-time p in
+    omega (arith, p .recompute-caches .kept, q .put-time .kept, to-put-word q .put-word .kept)
 
 same-length-3 : tie.Need-same-length-3
-same-length-3 c = c .before .before .before .before .before .before .before .before .recompute-caches .kept .1 .1 .1 .1 .1 .0
+same-length-3 c =
+    let p : tie.After-recompute-caches = search in
+    let q = to-put-time p in
+    omega (arith, p .recompute-caches .kept, q .put-time .kept, to-put-word q .put-word .kept)
 
 same-length-4 : tie.Need-same-length-4
-same-length-4 c = c .before .before .before .before .before .before .before .before .recompute-caches .kept .1 .1 .1 .1 .1 .1 .0
+same-length-4 c =
+    let p : tie.After-recompute-caches = search in
+    let q = to-put-time p in
+    omega (arith, p .recompute-caches .kept, q .put-time .kept, to-put-word q .put-word .kept)
 
 same-length-5 : tie.Need-same-length-5
-same-length-5 c = c .before .before .before .before .before .before .before .before .before .before .before .before .before .before .before .before .put-time .kept .0
+same-length-5 c =
+    let p : tie.After-recompute-caches = search in
+    let q = to-put-time p in
+    omega (arith, p .recompute-caches .kept, q .put-time .kept, to-put-word q .put-word .kept)
 
 same-length-6 : tie.Need-same-length-6
-same-length-6 c = c .before .before .before .before .before .before .before .before .recompute-caches .kept .1 .1 .1 .1 .1 .1 .1 .0
+same-length-6 c =
+    let p : tie.After-recompute-caches = search in
+    let q = to-put-time p in
+    omega (arith, p .recompute-caches .kept, q .put-time .kept, to-put-word q .put-word .kept)
 
 returns : tie.Need-returns
 unfolding moveUp
-returns c = rw (← c .before .before .before .before .before .before .before .before .before .before .before .before .before .before .before .before .before .before .before .before .put-word .ensures, ← c .before .before .before .before .before .before .before .before .before .before .before .before .before .before .before .before .put-time .ensures, ← c .before .before .before .before .before .before .before .before .recompute-caches .ensures)
+returns c =
+    let put-word = let p : tie.After-put-word = search in p .put-word in
+    let put-time = let p : tie.After-put-time = search in p .put-time in
+    let recompute-caches = let p : tie.After-recompute-caches = search in p .recompute-caches in
+    rw (← put-word .ensures, ← put-time .ensures, ← recompute-caches .ensures)
 
 pub move-up-spec : {M : Type 1} → statement M
 move-up-spec =

@@ -17,14 +17,23 @@ word-at-requires-2 c κs = tt
 returns : tie.Need-returns
 unfolding blockBefore
 returns c =
-    let l : sequenceAt (c .before .before .before .before .before .args .sequences .now) (c .before .before .before .before .before .args .a .0) < sequenceAt (c .before .before .before .before .before .args .sequences .now) (c .before .before .before .before .before .args .b .0) = omega (arith, c .before .before .word-at .ensures, c .before .word-at2 .ensures, c .if1 .taken) in
+    let args = let p : tie.Start = search in p .args in
+    let word-at = let p : tie.After-word-at = search in p .word-at in
+    let word-at2 = let p : tie.After-word-at2 = search in p .word-at2 in
+    let l : sequenceAt (args .sequences .now) (args .a .0) < sequenceAt (args .sequences .now) (args .b .0) =
+    omega (arith, word-at .ensures, word-at2 .ensures, c .if1 .taken) in
     rw (lt-ltb _ _ l)
 
 returns-2 : tie.Need-returns-2
 unfolding blockBefore
 returns-2 c =
-    let l : sequenceAt (c .before .before .before .before .before .before .args .sequences .now) (c .before .before .before .before .before .before .args .b .0) ≤ sequenceAt (c .before .before .before .before .before .before .args .sequences .now) (c .before .before .before .before .before .before .args .a .0) = omega (arith, c .before .before .before .word-at .ensures, c .before .before .word-at2 .ensures, c .before .if1 .left) in
-    rw (le-ltb _ _ l, ne-eqb _ _ (λ q. c .if2 .taken (c .before .before .before .word-at .ensures ∙ q ∙ sym (c .before .before .word-at2 .ensures))))
+    let args = let p : tie.Start = search in p .args in
+    let word-at = let p : tie.After-word-at = search in p .word-at in
+    let word-at2 = let p : tie.After-word-at2 = search in p .word-at2 in
+    let if1 = let p : tie.Else1 = search in p .if1 in
+    let l : sequenceAt (args .sequences .now) (args .b .0) ≤ sequenceAt (args .sequences .now) (args .a .0) =
+    omega (arith, word-at .ensures, word-at2 .ensures, if1 .left) in
+    rw (le-ltb _ _ l, ne-eqb _ _ (λ q. c .if2 .taken (word-at .ensures ∙ q ∙ sym (word-at2 .ensures))))
 
 hash-before-requires : tie.Need-hash-before-requires
 hash-before-requires c κs = tt
@@ -32,9 +41,14 @@ hash-before-requires c κs = tt
 returns-3 : tie.Need-returns-3
 unfolding blockBefore
 returns-3 c =
-    let a = c .before .before .before .before .before .before .before .args in
-    let l : sequenceAt (a .sequences .now) (a .b .0) ≤ sequenceAt (a .sequences .now) (a .a .0) = omega (arith, c .before .before .before .before .word-at .ensures, c .before .before .before .word-at2 .ensures, c .before .before .if1 .left) in
-    rw (le-ltb _ _ l, eq-eqb _ _ (sym (c .before .before .before .before .word-at .ensures) ∙ c .before .if2 .left ∙ c .before .before .before .word-at2 .ensures)) (c .hash-before .ensures)
+    let word-at = let p : tie.After-word-at = search in p .word-at in
+    let word-at2 = let p : tie.After-word-at2 = search in p .word-at2 in
+    let if1 = let p : tie.Else1 = search in p .if1 in
+    let if2 = let p : tie.Else2 = search in p .if2 in
+    let a = let p : tie.Start = search in p .args in
+    let l : sequenceAt (a .sequences .now) (a .b .0) ≤ sequenceAt (a .sequences .now) (a .a .0) =
+    omega (arith, word-at .ensures, word-at2 .ensures, if1 .left) in
+    rw (le-ltb _ _ l, eq-eqb _ _ (sym (word-at .ensures) ∙ if2 .left ∙ word-at2 .ensures)) (c .hash-before .ensures)
 
 pub block-before-spec : {M : Type 1} → statement M
 block-before-spec =

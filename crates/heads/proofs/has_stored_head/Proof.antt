@@ -27,8 +27,12 @@ is-stored-requires c κs = tt
 returns : tie.Need-returns Inv-loop μ-loop
 unfolding hasStoredHead
 returns c =
-    let e : lowest (stored (c .before .before .before .before .before .before .before .args .tips .now) (c .before .before .before .before .before .before .before .args .connected .now)) (slotsOf (c .before .before .before .before .before .before .before .args .tips .now)) ≡ some (c .before .before .before .loop .k) =
-    lowest-at _ (c .before .before .before .loop .k) _ (c .before .before .before .loop .inv .1) (sym (c .before .is-stored .ensures) ∙ c .if1 .taken) (omega (arith, c .before .before .before .before .slots .ensures)) in
+    let args = let p : tie.Start Inv-loop μ-loop = search in p .args in
+    let slots = let p : tie.After-slots Inv-loop μ-loop = search in p .slots in
+    let loop = let p : tie.At-loop Inv-loop μ-loop = search in p .loop in
+    let is-stored = let p : tie.After-is-stored Inv-loop μ-loop = search in p .is-stored in
+    let e : lowest (stored (args .tips .now) (args .connected .now)) (slotsOf (args .tips .now)) ≡ some (loop .k) =
+    lowest-at _ (loop .k) _ (loop .inv .1) (sym (is-stored .ensures) ∙ c .if1 .taken) (omega (arith, slots .ensures)) in
     rw e
 
 add-k : tie.Need-add-k Inv-loop μ-loop
@@ -38,7 +42,10 @@ loop-less : tie.Need-loop-less Inv-loop μ-loop
 loop-less c = omega arith
 
 loop-again : tie.Need-loop-again Inv-loop μ-loop
-loop-again c = (omega arith, lowest-next _ (c .before .before .before .loop .k) (c .before .before .before .loop .inv .1) (sym (c .before .is-stored .ensures) ∙ c .if1 .left))
+loop-again c =
+    let loop = let p : tie.At-loop Inv-loop μ-loop = search in p .loop in
+    let is-stored = let p : tie.After-is-stored Inv-loop μ-loop = search in p .is-stored in
+    (omega arith, lowest-next _ (loop .k) (loop .inv .1) (sym (is-stored .ensures) ∙ c .if1 .left))
 
 returns-2 : tie.Need-returns-2 Inv-loop μ-loop
 unfolding hasStoredHead

@@ -42,7 +42,14 @@ same-length-6 c = search needs
 
 returns : tie.Need-returns
 unfolding putHead
-returns c = rw (c .before .before .before .before .before .before .before .before .before .before .before .before .before .before .before .before .before .before .before .before .before .before .put-word .ensures, c .before .before .before .before .before .before .before .before .before .before .before .before .before .before .before .before .before .before .put-word2 .ensures, c .before .before .before .before .before .before .before .before .before .before .before .before .before .before .put-hash .ensures, c .before .before .before .before .before .before .before .before .before .before .put-time .ensures, c .before .before .before .before .before .before .put-time2 .ensures, c .before .before .put-byte .ensures)
+returns c =
+    let put-word = let p : tie.After-put-word = search in p .put-word in
+    let put-word2 = let p : tie.After-put-word2 = search in p .put-word2 in
+    let put-hash = let p : tie.After-put-hash = search in p .put-hash in
+    let put-time = let p : tie.After-put-time = search in p .put-time in
+    let put-time2 = let p : tie.After-put-time2 = search in p .put-time2 in
+    let put-byte = let p : tie.After-put-byte = search in p .put-byte in
+    rw (put-word .ensures, put-word2 .ensures, put-hash .ensures, put-time .ensures, put-time2 .ensures, put-byte .ensures)
 
 pub put-head-spec : {M : Type 1} → statement M
 put-head-spec =

@@ -1,10 +1,5 @@
 -- The three tests in turn.
-use mathlib.Core.Path.{_≡_, sym, _∙_}
-use mathlib.Core.Bool.{true, false}
 use borrow.Author.Tests.{not-true, not-false}
-use Rattle.rules.specs.Common.{isSome}
-use Rattle.rules.specs.Records.{occupied}
-use Rattle.rules.specs.Caches.{slotOfHead}
 use Rattle.rules.specs.Removal.{takesOver}
 use Rattle.heirs.proofs.takes_over.Statement.{statement}
 use Rattle.heirs.proofs.takes_over.Tie as tie
@@ -14,9 +9,7 @@ is-occupied-requires c κs = tt
 
 returns : tie.Need-returns
 unfolding takesOver
-returns c =
-    let e : occupied (c .before .before .before .before .before .args .sequences .now) (c .before .before .before .before .before .args .reattach .0) ≡ false = sym (c .before .is-occupied .ensures) ∙ not-true (c .before .is-occupied .result) (c .if1 .taken) in
-    rw e
+returns c = rw (← c .before .is-occupied .ensures, not-true (c .before .is-occupied .result) (c .if1 .taken))
 
 is-head-requires : tie.Need-is-head-requires
 is-head-requires c κs = tt
@@ -24,9 +17,10 @@ is-head-requires c κs = tt
 returns-2 : tie.Need-returns-2
 unfolding takesOver
 returns-2 c =
-    let e : occupied (c .before .before .before .before .before .before .before .args .sequences .now) (c .before .before .before .before .before .before .before .args .reattach .0) ≡ true = sym (c .before .before .before .is-occupied .ensures) ∙ not-false (c .before .before .before .is-occupied .result) (c .before .before .if1 .left) in
-    let f : isSome (slotOfHead (c .before .before .before .before .before .before .before .args .tips .now) (c .before .before .before .before .before .before .before .args .reattach .0)) ≡ true = sym (c .before .is-head .ensures) ∙ c .if2 .taken in
-    rw (e, f)
+    let is-occupied = let p : tie.After-is-occupied = search in p .is-occupied in
+    let if1 = let p : tie.Else1 = search in p .if1 in
+    let is-head = let p : tie.After-is-head = search in p .is-head in
+    rw (← is-occupied .ensures, not-false (is-occupied .result) (if1 .left), ← is-head .ensures, c .if2 .taken)
 
 is-childless-requires : tie.Need-is-childless-requires
 is-childless-requires c κs = tt
@@ -34,9 +28,11 @@ is-childless-requires c κs = tt
 returns-3 : tie.Need-returns-3
 unfolding takesOver
 returns-3 c =
-    let e : occupied (c .before .before .before .before .before .before .before .before .args .sequences .now) (c .before .before .before .before .before .before .before .before .args .reattach .0) ≡ true = sym (c .before .before .before .before .is-occupied .ensures) ∙ not-false (c .before .before .before .before .is-occupied .result) (c .before .before .before .if1 .left) in
-    let f : isSome (slotOfHead (c .before .before .before .before .before .before .before .before .args .tips .now) (c .before .before .before .before .before .before .before .before .args .reattach .0)) ≡ false = sym (c .before .before .is-head .ensures) ∙ c .before .if2 .left in
-    rw (e, f) (c .is-childless .ensures)
+    let is-occupied = let p : tie.After-is-occupied = search in p .is-occupied in
+    let if1 = let p : tie.Else1 = search in p .if1 in
+    let is-head = let p : tie.After-is-head = search in p .is-head in
+    let if2 = let p : tie.Else2 = search in p .if2 in
+    rw (← is-occupied .ensures, not-false (is-occupied .result) (if1 .left), ← is-head .ensures, if2 .left) (c .is-childless .ensures)
 
 pub takes-over-spec : {M : Type 1} → statement M
 takes-over-spec =

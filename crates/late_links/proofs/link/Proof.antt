@@ -1,8 +1,16 @@
 -- The parent, then the count or the head.
-use mathlib.Core.Path.{_∙_}
-use Rattle.rules.specs.Admission.{link}
+use native.Mathlib.Omega.{arith}
+use mathlib.Core.Path.{_≡_, _∙_}
+use mathlib.Core.List.{List}
+use Prim.Native.Nat.{ℕ}
+use Rattle.rules.specs.Records.{Tables, tailAt, withParents}
+use Rattle.rules.specs.BlockTable.{resolveParent}
+use Rattle.rules.specs.Admission.{joined, link}
 use Rattle.late_links.proofs.link.Statement.{statement}
 use Rattle.late_links.proofs.link.Tie as tie
+
+abbrev to-resolve-parent-ref : tie.After-join → tie.After-resolve-parent-ref
+to-resolve-parent-ref c = search
 
 word-at-requires : tie.Need-word-at-requires
 word-at-requires c κs = tt
@@ -14,32 +22,58 @@ join-requires : tie.Need-join-requires
 join-requires c κs = tt
 
 same-length : tie.Need-same-length
-same-length c = c .before .before .before .before .before .before .before .before .before .before .before .before .before .before .before .before .before .before .before .before .before .before .before .before .before .resolve-parent-ref .kept .0
+same-length c =
+    let p : tie.After-join = search in
+    omega (arith, p .join .kept, to-resolve-parent-ref p .resolve-parent-ref .kept)
 
 same-length-2 : tie.Need-same-length-2
-same-length-2 c = c .before .before .before .before .before .before .before .before .before .before .before .before .before .before .join .kept .1 .1 .1 .0
+same-length-2 c =
+    let p : tie.After-join = search in
+    omega (arith, p .join .kept, to-resolve-parent-ref p .resolve-parent-ref .kept)
 
 same-length-3 : tie.Need-same-length-3
-same-length-3 c = c .before .before .before .before .before .before .before .before .before .before .before .before .before .before .join .kept .1 .1 .1 .1 .1 .0
+same-length-3 c =
+    let p : tie.After-join = search in
+    omega (arith, p .join .kept, to-resolve-parent-ref p .resolve-parent-ref .kept)
 
 same-length-4 : tie.Need-same-length-4
-same-length-4 c = c .before .before .before .before .before .before .before .before .before .before .before .before .before .before .join .kept .1 .1 .1 .1 .1 .1 .0
+same-length-4 c =
+    let p : tie.After-join = search in
+    omega (arith, p .join .kept, to-resolve-parent-ref p .resolve-parent-ref .kept)
 
 same-length-5 : tie.Need-same-length-5
-same-length-5 c = c .before .before .before .before .before .before .before .before .before .before .before .before .before .before .join .kept .1 .1 .1 .1 .1 .1 .1 .0
+same-length-5 c =
+    let p : tie.After-join = search in
+    omega (arith, p .join .kept, to-resolve-parent-ref p .resolve-parent-ref .kept)
 
 same-length-6 : tie.Need-same-length-6
-same-length-6 c = c .before .before .before .before .before .before .before .before .before .before .before .before .before .before .join .kept .1 .1 .1 .1 .1 .1 .1 .1 .0
+same-length-6 c =
+    let p : tie.After-join = search in
+    omega (arith, p .join .kept, to-resolve-parent-ref p .resolve-parent-ref .kept)
 
 same-length-7 : tie.Need-same-length-7
-same-length-7 c = c .before .before .before .before .before .before .before .before .before .before .before .before .before .before .join .kept .1 .1 .1 .1 .1 .1 .1 .1 .1 .0
+same-length-7 c =
+    let p : tie.After-join = search in
+    omega (arith, p .join .kept, to-resolve-parent-ref p .resolve-parent-ref .kept)
 
 same-length-8 : tie.Need-same-length-8
-same-length-8 c = c .before .before .before .before .before .before .before .before .before .before .before .before .before .before .join .kept .1 .1 .1 .1 .1 .1 .1 .1 .1 .1 .0
+same-length-8 c =
+    let p : tie.After-join = search in
+    omega (arith, p .join .kept, to-resolve-parent-ref p .resolve-parent-ref .kept)
+
+-- the two steps as one, of any tables
+steps : (t v : Tables) (parents : List ℕ) (block k tail : ℕ)
+    → tail ≡ tailAt (t .heads .tails) k → parents ≡ resolveParent (t .blocks .parents) tail block
+    → v ≡ joined (record { blocks = withParents (t .blocks) parents; heads = t .heads }) block → v ≡ link t block k
+unfolding link
+steps t v parents block k tail e f g = g ∙ rw (f, e)
 
 returns : tie.Need-returns
-unfolding link
-returns c = c .before .before .before .before .before .before .before .before .before .before .before .before .before .before .join .ensures ∙ rw (c .before .before .before .before .before .before .before .before .before .before .before .before .before .before .before .before .before .before .before .before .before .before .before .before .before .resolve-parent-ref .ensures, c .before .before .before .before .before .before .before .before .before .before .before .before .before .before .before .before .before .before .before .before .before .before .before .before .before .before .before .word-at .ensures)
+returns c =
+    let word-at = let p : tie.After-word-at = search in p .word-at in
+    let resolve-parent-ref = let p : tie.After-resolve-parent-ref = search in p .resolve-parent-ref in
+    let join = let p : tie.After-join = search in p .join in
+    steps _ _ _ _ _ _ (word-at .ensures) (resolve-parent-ref .ensures) (join .ensures)
 
 pub link-spec : {M : Type 1} → statement M
 link-spec =

@@ -1,31 +1,38 @@
--- Stored, and the hash.
-use mathlib.Core.Path.{_≡_, sym, _∙_}
-use mathlib.Core.Bool.{true, false}
+-- The first byte, stored, and the hash.
+use mathlib.Core.Path.{sym, _∙_}
+use borrow.Author.Needs.{needs}
 use borrow.Author.Tests.{not-true, not-false}
-use Rattle.rules.specs.Records.{stored}
 use Rattle.rules.specs.Admission.{misses}
+use Rattle.late_links.proofs.Missed.{not-missed}
 use Rattle.late_links.proofs.misses.Statement.{statement}
 use Rattle.late_links.proofs.misses.Tie as tie
+
+first-byte-requires : tie.Need-first-byte-requires
+first-byte-requires c κs = tt
+
+array-read-if1 : tie.Need-array-read-if1
+array-read-if1 c = search needs
+
+returns : tie.Need-returns
+returns c = sym (not-missed _ _ _ _ _ (λ q. c .if1 .taken (c .before .first-byte .ensures ∙ q)))
 
 is-stored-requires : tie.Need-is-stored-requires
 is-stored-requires c κs = tt
 
-returns : tie.Need-returns
+returns-2 : tie.Need-returns-2
 unfolding misses
-returns c =
-    let a = c .before .before .before .before .before .before .before .before .args in
-    let e : stored (a .tips .now) (a .connected .now) (a .head .0) ≡ false = sym (c .before .is-stored .ensures) ∙ not-true (c .before .is-stored .result) (c .if1 .taken) in
-    rw e
+returns-2 c = let s = c .before .is-stored in rw (← s .ensures, not-true (s .result) (c .if2 .taken))
 
 same-hash-at-requires : tie.Need-same-hash-at-requires
 same-hash-at-requires c κs = tt
 
-returns-2 : tie.Need-returns-2
+returns-3 : tie.Need-returns-3
 unfolding misses
-returns-2 c =
-    let a = c .before .before .before .before .before .before .before .before .before .args in
-    let e : stored (a .tips .now) (a .connected .now) (a .head .0) ≡ true = sym (c .before .before .is-stored .ensures) ∙ not-false (c .before .before .is-stored .result) (c .before .if1 .left) in
-    rw e (c .same-hash-at .ensures)
+returns-3 c =
+    let s = c .before .before .is-stored in
+    rw (← s .ensures, not-false (s .result) (c .before .if2 .left)) (c .same-hash-at .ensures)
 
 pub misses-spec : {M : Type 1} → statement M
-misses-spec = tie.close (tie.spec is-stored-requires returns same-hash-at-requires returns-2)
+misses-spec =
+    tie.close
+    (tie.spec first-byte-requires array-read-if1 returns is-stored-requires returns-2 same-hash-at-requires returns-3)

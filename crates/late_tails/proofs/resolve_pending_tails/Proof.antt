@@ -1,10 +1,16 @@
 -- Left out where the new block is gone.
-use mathlib.Core.Path.{_≡_, sym, _∙_}
-use mathlib.Core.Bool.{true, false}
-use Rattle.rules.specs.Records.{occupied}
-use Rattle.rules.specs.Admission.{resolveTails}
+use native.Mathlib.Omega.{arith}
+use mathlib.Core.Path.{refl, sym, _∙_}
+use Rattle.rules.proofs.Places.{the}
+use Rattle.late_tails.proofs.Tails.{resolved, gone}
 use Rattle.late_tails.proofs.resolve_pending_tails.Statement.{statement}
 use Rattle.late_tails.proofs.resolve_pending_tails.Tie as tie
+
+abbrev linked : tie.After-recompute-missing → tie.After-link-tails
+linked c = search
+
+abbrev read : tie.After-link-tails → tie.After-word-at
+read c = search
 
 is-occupied-requires : tie.Need-is-occupied-requires
 is-occupied-requires c κs = tt
@@ -19,41 +25,39 @@ recompute-missing-requires : tie.Need-recompute-missing-requires
 recompute-missing-requires c κs = tt
 
 same-length : tie.Need-same-length
-same-length c = c .before .before .before .before .before .before .before .before .before .before .before .before .before .before .before .before .before .before .before .before .before .before .before .before .before .before .before .before .before .before .before .before .before .link-tails .kept .1 .0
+same-length c = let r = the tie.After-recompute-missing (search) in omega (arith, r .recompute-missing .kept, linked r .link-tails .kept)
 
 same-length-2 : tie.Need-same-length-2
-same-length-2 c = c .before .before .before .before .before .before .before .before .before .before .before .before .before .before .before .before .before .before .before .before .before .before .before .before .before .before .before .before .before .before .before .before .before .link-tails .kept .1 .1 .1 .0
+same-length-2 c = let r = the tie.After-recompute-missing (search) in omega (arith, r .recompute-missing .kept, linked r .link-tails .kept)
 
 same-length-3 : tie.Need-same-length-3
-same-length-3 c = c .before .before .before .before .before .before .before .before .before .before .before .before .before .before .before .before .before .before .before .before .before .before .before .before .before .before .before .before .before .before .before .before .before .link-tails .kept .1 .1 .1 .1 .1 .0
+same-length-3 c = let r = the tie.After-recompute-missing (search) in omega (arith, r .recompute-missing .kept, linked r .link-tails .kept)
 
 same-length-4 : tie.Need-same-length-4
-same-length-4 c = c .before .before .before .before .before .before .before .before .recompute-missing .kept .1 .1 .1 .1 .1 .1 .0 ∙ c .before .before .before .before .before .before .before .before .before .before .before .before .before .before .before .before .before .before .before .before .before .before .before .before .before .before .before .before .before .before .before .before .before .link-tails .kept .1 .1 .1 .1 .1 .1 .0
+same-length-4 c = let r = the tie.After-recompute-missing (search) in omega (arith, r .recompute-missing .kept, linked r .link-tails .kept)
 
 same-length-5 : tie.Need-same-length-5
-same-length-5 c = c .before .before .before .before .before .before .before .before .recompute-missing .kept .1 .1 .1 .1 .1 .1 .1 .0 ∙ c .before .before .before .before .before .before .before .before .before .before .before .before .before .before .before .before .before .before .before .before .before .before .before .before .before .before .before .before .before .before .before .before .before .link-tails .kept .1 .1 .1 .1 .1 .1 .1 .0
+same-length-5 c = let r = the tie.After-recompute-missing (search) in omega (arith, r .recompute-missing .kept, linked r .link-tails .kept)
 
 same-length-6 : tie.Need-same-length-6
-same-length-6 c = c .before .before .before .before .before .before .before .before .recompute-missing .kept .1 .1 .1 .1 .1 .1 .1 .1 .0 ∙ c .before .before .before .before .before .before .before .before .before .before .before .before .before .before .before .before .before .before .before .before .before .before .before .before .before .before .before .before .before .before .before .before .before .link-tails .kept .1 .1 .1 .1 .1 .1 .1 .1 .0
+same-length-6 c = let r = the tie.After-recompute-missing (search) in omega (arith, r .recompute-missing .kept, linked r .link-tails .kept)
 
 same-length-7 : tie.Need-same-length-7
-same-length-7 c = c .before .before .before .before .before .before .before .before .before .before .before .before .before .before .before .before .before .before .before .before .before .before .before .before .before .before .before .before .before .before .before .before .before .link-tails .kept .1 .1 .1 .1 .1 .1 .1 .1 .1 .0
+same-length-7 c = let r = the tie.After-recompute-missing (search) in omega (arith, r .recompute-missing .kept, linked r .link-tails .kept)
 
 same-length-8 : tie.Need-same-length-8
-same-length-8 c = c .before .before .before .before .before .before .before .before .recompute-missing .kept .1 .1 .1 .1 .1 .1 .1 .1 .1 .1 .0 ∙ c .before .before .before .before .before .before .before .before .before .before .before .before .before .before .before .before .before .before .before .before .before .before .before .before .before .before .before .before .before .before .before .before .before .link-tails .kept .1 .1 .1 .1 .1 .1 .1 .1 .1 .1 .0
+same-length-8 c = let r = the tie.After-recompute-missing (search) in omega (arith, r .recompute-missing .kept, linked r .link-tails .kept)
 
 returns : tie.Need-returns
-unfolding resolveTails
 returns c =
-    let a = c .before .before .before .before .before .before .before .before .before .before .before .before .before .before .before .before .before .before .before .before .before .before .before .before .before .before .before .before .before .before .before .before .before .before .before .before .before .before .before .before .before .before .before .before .before .before .before .before .before .before .before .before .before .before .before .before .before .args in
-    let e : occupied (a .sequences .now) (a .block .0) ≡ true = sym (c .before .before .before .before .before .before .before .before .before .before .before .before .before .before .before .before .before .before .before .before .before .before .before .before .before .before .before .before .before .before .before .before .before .before .before .before .before .before .before .before .before .before .before .before .is-occupied .ensures) ∙ c .before .before .before .before .before .before .before .before .before .before .before .before .before .before .before .before .before .before .before .before .before .before .before .before .before .before .before .before .before .before .before .before .before .before .before .before .before .before .before .before .before .before .before .if1 .taken in
-    rw (e, ← c .before .before .before .before .before .before .before .before .before .before .before .before .before .before .before .before .before .before .before .before .before .before .before .before .before .before .before .before .before .before .before .before .before .before .before .before .before .before .before .before .before .before .word-at .ensures, ← c .before .before .before .before .before .before .before .before .before .before .before .before .before .before .before .before .before .before .before .before .before .before .before .before .before .before .before .before .before .before .before .before .before .link-tails .ensures) (c .before .before .before .before .before .before .before .before .recompute-missing .ensures)
+    let r = the tie.After-recompute-missing (search) in
+    let l = linked r in
+    let w = read l in
+    let b = w .before in
+    resolved _ _ _ _ _ _ (sym (b .before .is-occupied .ensures) ∙ b .if1 .taken) (w .word-at .ensures) refl (l .link-tails .ensures) (r .recompute-missing .ensures)
 
 returns-2 : tie.Need-returns-2
-unfolding resolveTails
-returns-2 c =
-    let e : occupied (c .before .before .before .before .before .before .before .before .before .before .before .before .before .before .args .sequences .now) (c .before .before .before .before .before .before .before .before .before .before .before .before .before .before .args .block .0) ≡ false = sym (c .before .is-occupied .ensures) ∙ c .if1 .left in
-    rw e
+returns-2 c = let b = the tie.Else1 (search) in gone _ _ _ (sym (b .before .is-occupied .ensures) ∙ b .if1 .left)
 
 pub resolve-pending-tails-spec : {M : Type 1} → statement M
 resolve-pending-tails-spec =

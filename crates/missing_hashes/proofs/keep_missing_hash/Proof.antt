@@ -30,8 +30,10 @@ knowing-requires c κs = search needs
 
 returns : tie.Need-returns
 returns c =
-    let t = c .before .before .before .before .if1 .taken in
-    rw (missing-known _ _ _ _ _ t, ← c .before .before .before .knowing .ensures, c .if2 .taken) (sym (hash-put-back _ _))
+    let if1 = let p : tie.Then1 = search in p .if1 in
+    let knowing-call = let p : tie.After-knowing = search in p .knowing in
+    let t = if1 .taken in
+    rw (missing-known _ _ _ _ _ t, ← knowing-call .ensures, c .if2 .taken) (sym (hash-put-back _ _))
 
 missing-part-requires : tie.Need-missing-part-requires
 missing-part-requires c κs = search needs
@@ -46,7 +48,11 @@ same-length : tie.Need-same-length
 same-length c = search needs
 
 returns-2 : tie.Need-returns-2
-returns-2 c = c .before .before .put-hash .ensures ∙ rw (c .before .before .before .before .hash-at .ensures, c .before .before .before .before .before .missing-part .ensures, part-read (joined c))
+returns-2 c =
+    let missing-part = let p : tie.After-missing-part = search in p .missing-part in
+    let hash-at = let p : tie.After-hash-at = search in p .hash-at in
+    let put-hash = let p : tie.After-put-hash = search in p .put-hash in
+    put-hash .ensures ∙ rw (hash-at .ensures, missing-part .ensures, part-read (joined c))
 
 pub keep-missing-hash-spec : {M : Type 1} → statement M
 keep-missing-hash-spec =

@@ -34,7 +34,10 @@ next-at-requires : tie.Need-next-at-requires Inv-loop μ-loop
 next-at-requires c κs = tt
 
 loop-holds : tie.Need-loop-holds Inv-loop μ-loop
-loop-holds c = rw (c .next-at .ensures) (search-first (c .before .before .before .before .before .before .before .args .tails .now) (c .before .before .before .before .before .before .before .args .tail .0) _ (waits-elsewhere (c .before .before .before .before .before .before .before .args .tips .now) (c .before .before .before .before .before .before .before .args .tails .now) (c .before .before .before .before .before .before .before .args .connected .now) (c .before .before .before .before .before .before .before .args .tail .0)))
+loop-holds c =
+    let args = let p : tie.Start Inv-loop μ-loop = search in p .args in
+    rw (c .next-at .ensures) (search-first (args .tails .now) (args .tail .0) _
+    (waits-elsewhere (args .tips .now) (args .tails .now) (args .connected .now) (args .tail .0)))
 
 is-stored-requires : tie.Need-is-stored-requires Inv-loop μ-loop
 is-stored-requires c κs = tt
@@ -42,9 +45,16 @@ is-stored-requires c κs = tt
 returns-2 : tie.Need-returns-2 Inv-loop μ-loop
 unfolding knowing
 returns-2 c =
-    let k = c .before .before .before .loop .k in
-    let waits = waits-stored (c .before .before .before .before .before .before .before .before .before .before .before .args .tips .now) (c .before .before .before .before .before .before .before .before .before .before .before .args .tails .now) (c .before .before .before .before .before .before .before .before .before .before .before .args .connected .now) (c .before .before .before .before .before .before .before .before .before .before .before .args .tail .0) k (c .before .before .before .loop .inv .1 .1 (omega (arith, c .before .before .before .before .before .before .before .slots .ensures, c .before .before .before .before .before .before .slots2 .ensures))) ∙ sym (c .before .is-stored .ensures) ∙ c .if2 .taken in
-    let e : lowest (waitsAt (c .before .before .before .before .before .before .before .before .before .before .before .args .tips .now) (c .before .before .before .before .before .before .before .before .before .before .before .args .tails .now) (c .before .before .before .before .before .before .before .before .before .before .before .args .connected .now) (c .before .before .before .before .before .before .before .before .before .before .before .args .tail .0)) (slotsOf (c .before .before .before .before .before .before .before .before .before .before .before .args .tips .now)) ≡ some k = lowest-at _ k _ (c .before .before .before .loop .inv .1 .0) waits (omega (arith, c .before .before .before .before .before .before .before .slots .ensures)) in
+    let args = let p : tie.Start Inv-loop μ-loop = search in p .args in
+    let slots = let p : tie.After-slots Inv-loop μ-loop = search in p .slots in
+    let slots2 = let p : tie.After-slots2 Inv-loop μ-loop = search in p .slots2 in
+    let loop = let p : tie.At-loop Inv-loop μ-loop = search in p .loop in
+    let is-stored = let p : tie.After-is-stored Inv-loop μ-loop = search in p .is-stored in
+    let k = loop .k in
+    let waits = waits-stored (args .tips .now) (args .tails .now) (args .connected .now) (args .tail .0) k
+    (loop .inv .1 .1 (omega (arith, slots .ensures, slots2 .ensures))) ∙ sym (is-stored .ensures) ∙ c .if2 .taken in
+    let e : lowest (waitsAt (args .tips .now) (args .tails .now) (args .connected .now) (args .tail .0)) (slotsOf (args .tips .now)) ≡ some k =
+    lowest-at _ k _ (loop .inv .1 .0) waits (omega (arith, slots .ensures)) in
     rw (e, knowing)
 
 add-next-at : tie.Need-add-next-at Inv-loop μ-loop
@@ -54,18 +64,42 @@ next-at-requires-2 : tie.Need-next-at-requires-2 Inv-loop μ-loop
 next-at-requires-2 c κs = tt
 
 loop-less : tie.Need-loop-less Inv-loop μ-loop
-loop-less c = omega (arith, c .before .before .before .before .before .before .before .before .slots .ensures, c .before .before .before .before .before .before .before .slots2 .ensures, c .next-at2 .ensures, next-after (c .before .before .before .before .before .before .before .before .before .before .before .before .args .tails .now) (c .before .before .before .before .loop .k + 1) (c .before .before .before .before .before .before .before .before .before .before .before .before .args .tail .0) (omega (arith, c .before .before .before .before .before .before .before .before .slots .ensures, c .before .before .before .before .before .before .before .slots2 .ensures)))
+loop-less c =
+    let args = let p : tie.Start Inv-loop μ-loop = search in p .args in
+    let slots = let p : tie.After-slots Inv-loop μ-loop = search in p .slots in
+    let slots2 = let p : tie.After-slots2 Inv-loop μ-loop = search in p .slots2 in
+    let loop = let p : tie.At-loop Inv-loop μ-loop = search in p .loop in
+    omega (
+      arith,
+      slots .ensures,
+      slots2 .ensures,
+      c .next-at2 .ensures,
+      next-after (args .tails .now) (loop .k + 1) (args .tail .0) (omega (arith, slots .ensures, slots2 .ensures)),
+    )
 
 loop-again : tie.Need-loop-again Inv-loop μ-loop
 loop-again c =
-    let k = c .before .before .before .before .loop .k in
-    let waits = waits-stored (c .before .before .before .before .before .before .before .before .before .before .before .before .args .tips .now) (c .before .before .before .before .before .before .before .before .before .before .before .before .args .tails .now) (c .before .before .before .before .before .before .before .before .before .before .before .before .args .connected .now) (c .before .before .before .before .before .before .before .before .before .before .before .before .args .tail .0) k (c .before .before .before .before .loop .inv .1 .1 (omega (arith, c .before .before .before .before .before .before .before .before .slots .ensures, c .before .before .before .before .before .before .before .slots2 .ensures))) ∙ sym (c .before .before .is-stored .ensures) ∙ c .before .if2 .left in
-    rw (c .next-at2 .ensures) (search-from (c .before .before .before .before .before .before .before .before .before .before .before .before .args .tails .now) (c .before .before .before .before .before .before .before .before .before .before .before .before .args .tail .0) _ (waits-elsewhere (c .before .before .before .before .before .before .before .before .before .before .before .before .args .tips .now) (c .before .before .before .before .before .before .before .before .before .before .before .before .args .tails .now) (c .before .before .before .before .before .before .before .before .before .before .before .before .args .connected .now) (c .before .before .before .before .before .before .before .before .before .before .before .before .args .tail .0)) (k + 1) (omega (arith, c .before .before .before .before .before .before .before .before .slots .ensures, c .before .before .before .before .before .before .before .slots2 .ensures)) (lowest-next _ k (c .before .before .before .before .loop .inv .1 .0) waits))
+    let args = let p : tie.Start Inv-loop μ-loop = search in p .args in
+    let slots = let p : tie.After-slots Inv-loop μ-loop = search in p .slots in
+    let slots2 = let p : tie.After-slots2 Inv-loop μ-loop = search in p .slots2 in
+    let loop = let p : tie.At-loop Inv-loop μ-loop = search in p .loop in
+    let is-stored = let p : tie.After-is-stored Inv-loop μ-loop = search in p .is-stored in
+    let if2 = let p : tie.Else2 Inv-loop μ-loop = search in p .if2 in
+    let k = loop .k in
+    let waits = waits-stored (args .tips .now) (args .tails .now) (args .connected .now) (args .tail .0) k
+    (loop .inv .1 .1 (omega (arith, slots .ensures, slots2 .ensures))) ∙ sym (is-stored .ensures) ∙ if2 .left in
+    rw (c .next-at2 .ensures) (search-from (args .tails .now) (args .tail .0) _
+    (waits-elsewhere (args .tips .now) (args .tails .now) (args .connected .now) (args .tail .0)) (k + 1)
+    (omega (arith, slots .ensures, slots2 .ensures)) (lowest-next _ k (loop .inv .1 .0) waits))
 
 returns-3 : tie.Need-returns-3 Inv-loop μ-loop
 unfolding knowing
 returns-3 c =
-    let e : lowest (waitsAt (c .before .before .before .before .before .before .before .before .before .args .tips .now) (c .before .before .before .before .before .before .before .before .before .args .tails .now) (c .before .before .before .before .before .before .before .before .before .args .connected .now) (c .before .before .before .before .before .before .before .before .before .args .tail .0)) (slotsOf (c .before .before .before .before .before .before .before .before .before .args .tips .now)) ≡ none = lowest-fewer _ _ (c .before .loop .k) (omega (arith, c .before .before .before .before .before .slots .ensures)) (c .before .loop .inv .1 .0) in
+    let args = let p : tie.Start Inv-loop μ-loop = search in p .args in
+    let slots = let p : tie.After-slots Inv-loop μ-loop = search in p .slots in
+    let loop = let p : tie.At-loop Inv-loop μ-loop = search in p .loop in
+    let e : lowest (waitsAt (args .tips .now) (args .tails .now) (args .connected .now) (args .tail .0)) (slotsOf (args .tips .now)) ≡ none =
+    lowest-fewer _ _ (loop .k) (omega (arith, slots .ensures)) (loop .inv .1 .0) in
     rw (e, knowing)
 
 pub knowing-spec : {M : Type 1} → statement M

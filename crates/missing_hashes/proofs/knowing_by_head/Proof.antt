@@ -28,8 +28,13 @@ waits-at-requires c κs = tt
 returns : tie.Need-returns Inv-loop μ-loop
 unfolding knowing
 returns c =
-    let e : lowest (waitsAt (c .before .before .before .before .before .before .before .before .args .tips .now) (c .before .before .before .before .before .before .before .before .args .tails .now) (c .before .before .before .before .before .before .before .before .args .connected .now) (c .before .before .before .before .before .before .before .before .args .tail .0)) (slotsOf (c .before .before .before .before .before .before .before .before .args .tips .now)) ≡ some (c .before .before .before .loop .k) =
-    lowest-at _ (c .before .before .before .loop .k) _ (c .before .before .before .loop .inv .1) (sym (c .before .waits-at .ensures) ∙ c .if1 .taken) (omega (arith, c .before .before .before .before .slots .ensures)) in
+    let args = let p : tie.Start Inv-loop μ-loop = search in p .args in
+    let slots = let p : tie.After-slots Inv-loop μ-loop = search in p .slots in
+    let loop = let p : tie.At-loop Inv-loop μ-loop = search in p .loop in
+    let waits-at = let p : tie.After-waits-at Inv-loop μ-loop = search in p .waits-at in
+    let e : lowest (waitsAt (args .tips .now) (args .tails .now) (args .connected .now) (args .tail .0)) (slotsOf (args .tips .now)) ≡ some
+    (loop .k) =
+    lowest-at _ (loop .k) _ (loop .inv .1) (sym (waits-at .ensures) ∙ c .if1 .taken) (omega (arith, slots .ensures)) in
     rw (e, knowing)
 
 add-k : tie.Need-add-k Inv-loop μ-loop
@@ -39,14 +44,20 @@ loop-less : tie.Need-loop-less Inv-loop μ-loop
 loop-less c = omega arith
 
 loop-again : tie.Need-loop-again Inv-loop μ-loop
-loop-again c = (omega arith, lowest-next _ (c .before .before .before .loop .k) (c .before .before .before .loop .inv .1) (sym (c .before .waits-at .ensures) ∙ c .if1 .left))
+loop-again c =
+    let loop = let p : tie.At-loop Inv-loop μ-loop = search in p .loop in
+    let waits-at = let p : tie.After-waits-at Inv-loop μ-loop = search in p .waits-at in
+    (omega arith, lowest-next _ (loop .k) (loop .inv .1) (sym (waits-at .ensures) ∙ c .if1 .left))
 
 returns-2 : tie.Need-returns-2 Inv-loop μ-loop
 unfolding knowing
 returns-2 c =
-    let d : c .before .loop .k ≡ c .before .before .slots .result = omega arith in
-    let e : lowest (waitsAt (c .before .before .before .before .before .before .args .tips .now) (c .before .before .before .before .before .before .args .tails .now) (c .before .before .before .before .before .before .args .connected .now) (c .before .before .before .before .before .before .args .tail .0)) (slotsOf (c .before .before .before .before .before .before .args .tips .now)) ≡ none =
-    rw (← c .before .before .slots .ensures, ← d) (c .before .loop .inv .1) in
+    let args = let p : tie.Start Inv-loop μ-loop = search in p .args in
+    let slots = let p : tie.After-slots Inv-loop μ-loop = search in p .slots in
+    let loop = let p : tie.At-loop Inv-loop μ-loop = search in p .loop in
+    let d : loop .k ≡ slots .result = omega arith in
+    let e : lowest (waitsAt (args .tips .now) (args .tails .now) (args .connected .now) (args .tail .0)) (slotsOf (args .tips .now)) ≡ none =
+    rw (← slots .ensures, ← d) (loop .inv .1) in
     rw (e, knowing)
 
 pub knowing-by-head-spec : {M : Type 1} → statement M

@@ -17,8 +17,11 @@ same-length c = search needs
 
 returns : tie.Need-returns
 returns c =
-    let z = toZ-ofZ w8 (c .before .before .before .before .before .before .before .args .change) (c .before .before .before .before .before .before .before .fits .change) in
-    (c .counted .ensures ∙ ap orNone (c .before .before .before .adjust-head-ref-count .ensures .0) ∙ rw z, c .before .before .before .adjust-head-ref-count .ensures .1 ∙ rw z)
+    let fits = let p : tie.Start = search in p .fits in
+    let args = let p : tie.Start = search in p .args in
+    let adjust-head-ref-count = let p : tie.After-adjust-head-ref-count = search in p .adjust-head-ref-count in
+    let z = toZ-ofZ w8 (args .change) (fits .change) in
+    (c .counted .ensures ∙ ap orNone (adjust-head-ref-count .ensures .0) ∙ rw z, adjust-head-ref-count .ensures .1 ∙ rw z)
 
 pub probe-adjust-head-ref-count-spec : {M : Type 1} → statement M
 probe-adjust-head-ref-count-spec =

@@ -1,10 +1,9 @@
 -- Each test in turn.
-use mathlib.Core.Path.{_≡_, refl, sym, _∙_}
-use mathlib.Core.Bool.{true, false, _||_}
+use native.Mathlib.Omega.{arith}
+use mathlib.Core.Path.{refl, sym, _∙_}
 use borrow.Author.Tests.{not-true, not-false}
-use lib.Dec.{eqb}
-use Rattle.rules.specs.Records.{NONE, tablesOf, parentAt, occupied}
-use Rattle.rules.specs.Calls.{shaped, isNext, promote}
+use Rattle.rules.proofs.Places.{the}
+use Rattle.promote_call.proofs.Promoted.{misshapen, no-block, not-next, raised}
 use Rattle.promote_call.proofs.promote_at.Statement.{statement}
 use Rattle.promote_call.proofs.promote_at.Tie as tie
 
@@ -27,11 +26,10 @@ same-length-5 : tie.Need-same-length-5
 same-length-5 c = refl
 
 returns : tie.Need-returns
-unfolding promote
 returns c =
-    let p = c .before .before .before .before .before .before .before .before .before .before .before .before .before .before .before .before .before .before .args in
-    let e : shaped (tablesOf (p .hashes .now) (p .parents .now) (p .sequences .now) (p .counts .now) (p .flags .now) (p .tips .now) (p .tails .now) (p .missing .now) (p .requested .now) (p .arrivals .now) (p .connected .now)) ≡ false = sym (c .before .is-shaped .ensures) ∙ not-true (c .before .is-shaped .result) (c .if1 .taken) in
-    (rw e, (rw e, rw e))
+    let b = the tie.Then1 (search) in
+    let s = b .before .is-shaped in
+    misshapen _ _ (sym (s .ensures) ∙ not-true (s .result) (b .if1 .taken))
 
 is-occupied-requires : tie.Need-is-occupied-requires
 is-occupied-requires c κs = tt
@@ -52,12 +50,12 @@ same-length-10 : tie.Need-same-length-10
 same-length-10 c = refl
 
 returns-2 : tie.Need-returns-2
-unfolding promote
 returns-2 c =
-    let p = c .before .before .before .before .before .before .before .before .before .before .before .before .before .before .before .before .before .before .before .before .args in
-    let e : shaped (tablesOf (p .hashes .now) (p .parents .now) (p .sequences .now) (p .counts .now) (p .flags .now) (p .tips .now) (p .tails .now) (p .missing .now) (p .requested .now) (p .arrivals .now) (p .connected .now)) ≡ true = sym (c .before .before .before .is-shaped .ensures) ∙ not-false (c .before .before .before .is-shaped .result) (c .before .before .if1 .left) in
-    let o : occupied (p .sequences .now) (p .slot .0) ≡ false = sym (c .before .is-occupied .ensures) ∙ not-true (c .before .is-occupied .result) (c .if2 .taken) in
-    (rw (e, o), (rw (e, o), rw (e, o)))
+    let b = the tie.Then2 (search) in
+    let o = b .before .is-occupied in
+    let e = the tie.Else1 (search) in
+    let s = e .before .is-shaped in
+    no-block _ _ (sym (s .ensures) ∙ not-false (s .result) (e .if1 .left)) (sym (o .ensures) ∙ not-true (o .result) (b .if2 .taken))
 
 is-next-requires : tie.Need-is-next-requires
 is-next-requires c κs = tt
@@ -78,40 +76,43 @@ same-length-15 : tie.Need-same-length-15
 same-length-15 c = refl
 
 returns-3 : tie.Need-returns-3
-unfolding promote isNext
 returns-3 c =
-    let p = c .before .before .before .before .before .before .before .before .before .before .before .before .before .before .before .before .before .before .before .before .before .before .args in
-    let e : shaped (tablesOf (p .hashes .now) (p .parents .now) (p .sequences .now) (p .counts .now) (p .flags .now) (p .tips .now) (p .tails .now) (p .missing .now) (p .requested .now) (p .arrivals .now) (p .connected .now)) ≡ true = sym (c .before .before .before .before .before .is-shaped .ensures) ∙ not-false (c .before .before .before .before .before .is-shaped .result) (c .before .before .before .before .if1 .left) in
-    let o : occupied (p .sequences .now) (p .slot .0) ≡ true = sym (c .before .before .before .is-occupied .ensures) ∙ not-false (c .before .before .before .is-occupied .result) (c .before .before .if2 .left) in
-    let n : (eqb (p .active .0) NONE || eqb (parentAt (p .parents .now) (p .slot .0)) (p .active .0)) ≡ false = sym (c .before .is-next .ensures) ∙ not-true (c .before .is-next .result) (c .if3 .taken) in
-    (rw (e, o, n), (rw (e, o, n), rw (e, o, n)))
+    let b = the tie.Then3 (search) in
+    let n = b .before .is-next in
+    let f = the tie.Else2 (search) in
+    let o = f .before .is-occupied in
+    let e = the tie.Else1 (search) in
+    let s = e .before .is-shaped in
+    not-next _ _ (sym (s .ensures) ∙ not-false (s .result) (e .if1 .left)) (sym (o .ensures) ∙ not-false (o .result) (f .if2 .left)) (sym (n .ensures) ∙ not-true (n .result) (b .if3 .taken))
 
 raise-requires : tie.Need-raise-requires
 raise-requires c κs = tt
 
 same-length-16 : tie.Need-same-length-16
-same-length-16 c = c .before .before .before .before .before .before .before .before .before .before .raise .kept .1 .1 .1 .1 .0
+same-length-16 c = let r = the tie.After-raise (search) .raise in omega (arith, r .kept)
 
 same-length-17 : tie.Need-same-length-17
-same-length-17 c = c .before .before .before .before .before .before .before .before .before .before .raise .kept .1 .1 .1 .1 .1 .1 .0
+same-length-17 c = let r = the tie.After-raise (search) .raise in omega (arith, r .kept)
 
 same-length-18 : tie.Need-same-length-18
-same-length-18 c = c .before .before .before .before .before .before .before .before .before .before .raise .kept .1 .1 .1 .1 .1 .1 .1 .0
+same-length-18 c = let r = the tie.After-raise (search) .raise in omega (arith, r .kept)
 
 same-length-19 : tie.Need-same-length-19
-same-length-19 c = c .before .before .before .before .before .before .before .before .before .before .raise .kept .1 .1 .1 .1 .1 .1 .1 .1 .0
+same-length-19 c = let r = the tie.After-raise (search) .raise in omega (arith, r .kept)
 
 same-length-20 : tie.Need-same-length-20
-same-length-20 c = c .before .before .before .before .before .before .before .before .before .before .raise .kept .1 .1 .1 .1 .1 .1 .1 .1 .1 .1 .0
+same-length-20 c = let r = the tie.After-raise (search) .raise in omega (arith, r .kept)
 
 returns-4 : tie.Need-returns-4
-unfolding promote isNext
 returns-4 c =
-    let p = c .before .before .before .before .before .before .before .before .before .before .before .before .before .before .before .before .before .before .before .before .before .before .before .before .before .before .before .before .before .before .before .before .before .before .before .before .before .before .args in
-    let e : shaped (tablesOf (p .hashes .now) (p .parents .now) (p .sequences .now) (p .counts .now) (p .flags .now) (p .tips .now) (p .tails .now) (p .missing .now) (p .requested .now) (p .arrivals .now) (p .connected .now)) ≡ true = sym (c .before .before .before .before .before .before .before .before .before .before .before .before .before .before .before .before .before .before .before .before .before .is-shaped .ensures) ∙ not-false (c .before .before .before .before .before .before .before .before .before .before .before .before .before .before .before .before .before .before .before .before .before .is-shaped .result) (c .before .before .before .before .before .before .before .before .before .before .before .before .before .before .before .before .before .before .before .before .if1 .left) in
-    let o : occupied (p .sequences .now) (p .slot .0) ≡ true = sym (c .before .before .before .before .before .before .before .before .before .before .before .before .before .before .before .before .before .before .before .is-occupied .ensures) ∙ not-false (c .before .before .before .before .before .before .before .before .before .before .before .before .before .before .before .before .before .before .before .is-occupied .result) (c .before .before .before .before .before .before .before .before .before .before .before .before .before .before .before .before .before .before .if2 .left) in
-    let n : (eqb (p .active .0) NONE || eqb (parentAt (p .parents .now) (p .slot .0)) (p .active .0)) ≡ true = sym (c .before .before .before .before .before .before .before .before .before .before .before .before .before .before .before .before .before .is-next .ensures) ∙ not-false (c .before .before .before .before .before .before .before .before .before .before .before .before .before .before .before .before .before .is-next .result) (c .before .before .before .before .before .before .before .before .before .before .before .before .before .before .before .before .if3 .left) in
-    (rw (e, o, n), (rw (e, o, n), rw (e, o, n) (c .before .before .before .before .before .before .before .before .before .before .raise .ensures)))
+    let r = the tie.After-raise (search) in
+    let g = the tie.Else3 (search) in
+    let n = g .before .is-next in
+    let f = the tie.Else2 (search) in
+    let o = f .before .is-occupied in
+    let e = the tie.Else1 (search) in
+    let s = e .before .is-shaped in
+    raised _ _ (sym (s .ensures) ∙ not-false (s .result) (e .if1 .left)) (sym (o .ensures) ∙ not-false (o .result) (f .if2 .left)) _ (sym (n .ensures) ∙ not-false (n .result) (g .if3 .left)) (r .raise .ensures)
 
 pub promote-at-spec : {M : Type 1} → statement M
 promote-at-spec =

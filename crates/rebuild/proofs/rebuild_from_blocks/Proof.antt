@@ -1,9 +1,17 @@
 -- Heads, then counts.
-use mathlib.Core.Path.{_∙_}
-use Rattle.rules.specs.Rebuild.{rebuilt}
+use native.Mathlib.Omega.{arith}
 use borrow.Author.Needs.{needs}
+use mathlib.Core.Path.{_≡_, refl, _∙_}
+use mathlib.Core.List.{List}
+use Prim.Native.Nat.{ℕ}
+use Rattle.rules.specs.Records.{Tables, withCounts}
+use Rattle.rules.specs.Removal.{recountAll}
+use Rattle.rules.specs.Rebuild.{rebuildHeads, rebuilt}
 use Rattle.rebuild.proofs.rebuild_from_blocks.Statement.{statement}
 use Rattle.rebuild.proofs.rebuild_from_blocks.Tie as tie
+
+abbrev to-rebuild-heads : tie.After-recompute-head-ref-counts → tie.After-rebuild-heads
+to-rebuild-heads c = search
 
 slice-aggregate-rebuild-heads : tie.Need-slice-aggregate-rebuild-heads
 slice-aggregate-rebuild-heads c = search needs
@@ -15,41 +23,71 @@ recompute-head-ref-counts-requires : tie.Need-recompute-head-ref-counts-requires
 recompute-head-ref-counts-requires c κs = tt
 
 same-length : tie.Need-same-length
-same-length c = c .before .before .before .before .before .before .before .before .before .before .before .before .before .before .before .before .before .before .before .before .before .before .before .before .before .before .before .before .before .rebuild-heads .kept .0
+same-length c =
+    let p : tie.After-recompute-head-ref-counts = search in
+    omega (arith, p .recompute-head-ref-counts .kept, to-rebuild-heads p .rebuild-heads .kept)
 
 same-length-2 : tie.Need-same-length-2
-same-length-2 c = c .before .before .before .before .before .before .before .before .before .before .before .before .before .before .before .before .before .before .before .before .before .before .before .before .before .before .before .before .before .rebuild-heads .kept .1 .0
+same-length-2 c =
+    let p : tie.After-recompute-head-ref-counts = search in
+    omega (arith, p .recompute-head-ref-counts .kept, to-rebuild-heads p .rebuild-heads .kept)
 
 same-length-3 : tie.Need-same-length-3
-same-length-3 c = c .before .before .before .before .before .before .before .before .before .before .before .before .before .before .before .before .before .before .before .before .before .before .before .before .before .before .before .before .before .rebuild-heads .kept .1 .1 .0
+same-length-3 c =
+    let p : tie.After-recompute-head-ref-counts = search in
+    omega (arith, p .recompute-head-ref-counts .kept, to-rebuild-heads p .rebuild-heads .kept)
 
 same-length-4 : tie.Need-same-length-4
-same-length-4 c = c .before .before .recompute-head-ref-counts .kept .1 .1 .0 ∙ c .before .before .before .before .before .before .before .before .before .before .before .before .before .before .before .before .before .before .before .before .before .before .before .before .before .before .before .before .before .rebuild-heads .kept .1 .1 .1 .0
+same-length-4 c =
+    let p : tie.After-recompute-head-ref-counts = search in
+    omega (arith, p .recompute-head-ref-counts .kept, to-rebuild-heads p .rebuild-heads .kept)
 
 same-length-5 : tie.Need-same-length-5
-same-length-5 c = c .before .before .before .before .before .before .before .before .before .before .before .before .before .before .before .before .before .before .before .before .before .before .before .before .before .before .before .before .before .rebuild-heads .kept .1 .1 .1 .1 .0
+same-length-5 c =
+    let p : tie.After-recompute-head-ref-counts = search in
+    omega (arith, p .recompute-head-ref-counts .kept, to-rebuild-heads p .rebuild-heads .kept)
 
 same-length-6 : tie.Need-same-length-6
-same-length-6 c = c .before .before .before .before .before .before .before .before .before .before .before .before .before .before .before .before .before .before .before .before .before .before .before .before .before .before .before .before .before .rebuild-heads .kept .1 .1 .1 .1 .1 .0
+same-length-6 c =
+    let p : tie.After-recompute-head-ref-counts = search in
+    omega (arith, p .recompute-head-ref-counts .kept, to-rebuild-heads p .rebuild-heads .kept)
 
 same-length-7 : tie.Need-same-length-7
-same-length-7 c = c .before .before .before .before .before .before .before .before .before .before .before .before .before .before .before .before .before .before .before .before .before .before .before .before .before .before .before .before .before .rebuild-heads .kept .1 .1 .1 .1 .1 .1 .0
+same-length-7 c =
+    let p : tie.After-recompute-head-ref-counts = search in
+    omega (arith, p .recompute-head-ref-counts .kept, to-rebuild-heads p .rebuild-heads .kept)
 
 same-length-8 : tie.Need-same-length-8
-same-length-8 c = c .before .before .before .before .before .before .before .before .before .before .before .before .before .before .before .before .before .before .before .before .before .before .before .before .before .before .before .before .before .rebuild-heads .kept .1 .1 .1 .1 .1 .1 .1 .0
+same-length-8 c =
+    let p : tie.After-recompute-head-ref-counts = search in
+    omega (arith, p .recompute-head-ref-counts .kept, to-rebuild-heads p .rebuild-heads .kept)
 
 same-length-9 : tie.Need-same-length-9
-same-length-9 c = c .before .before .before .before .before .before .before .before .before .before .before .before .before .before .before .before .before .before .before .before .before .before .before .before .before .before .before .before .before .rebuild-heads .kept .1 .1 .1 .1 .1 .1 .1 .1 .0
+same-length-9 c =
+    let p : tie.After-recompute-head-ref-counts = search in
+    omega (arith, p .recompute-head-ref-counts .kept, to-rebuild-heads p .rebuild-heads .kept)
 
 same-length-10 : tie.Need-same-length-10
-same-length-10 c = c .before .before .before .before .before .before .before .before .before .before .before .before .before .before .before .before .before .before .before .before .before .before .before .before .before .before .before .before .before .rebuild-heads .kept .1 .1 .1 .1 .1 .1 .1 .1 .1 .0
+same-length-10 c =
+    let p : tie.After-recompute-head-ref-counts = search in
+    omega (arith, p .recompute-head-ref-counts .kept, to-rebuild-heads p .rebuild-heads .kept)
 
 same-length-11 : tie.Need-same-length-11
-same-length-11 c = c .before .before .before .before .before .before .before .before .before .before .before .before .before .before .before .before .before .before .before .before .before .before .before .before .before .before .before .before .before .rebuild-heads .kept .1 .1 .1 .1 .1 .1 .1 .1 .1 .1 .0
+same-length-11 c =
+    let p : tie.After-recompute-head-ref-counts = search in
+    omega (arith, p .recompute-head-ref-counts .kept, to-rebuild-heads p .rebuild-heads .kept)
+
+-- the two steps as one, of any tables
+steps : (t u v : Tables) (counts : List ℕ) (arrival active : ℕ)
+    → u ≡ rebuildHeads t arrival active → counts ≡ recountAll (u .blocks .parents) (u .blocks .sequences) (u .blocks .counts)
+    → v ≡ record { blocks = withCounts (u .blocks) counts; heads = u .heads } → v ≡ rebuilt t arrival active
+unfolding rebuilt
+steps t u v counts arrival active e f g = g ∙ rw (f, e)
 
 returns : tie.Need-returns
-unfolding rebuilt
-returns c = rw (← c .before .before .before .before .before .before .before .before .before .before .before .before .before .before .before .before .before .before .before .before .before .before .before .before .before .before .before .before .before .rebuild-heads .ensures, ← c .before .before .recompute-head-ref-counts .ensures)
+returns c =
+    let r : tie.After-recompute-head-ref-counts = search in
+    steps _ _ _ _ _ _ (to-rebuild-heads r .rebuild-heads .ensures) (r .recompute-head-ref-counts .ensures) refl
 
 pub rebuild-from-blocks-spec : {M : Type 1} → statement M
 rebuild-from-blocks-spec =

@@ -1,9 +1,8 @@
 -- By whether there is a block, and whether its parent is a slot.
 use Prim.Native.Nat.{_<_, _≤_}
-use mathlib.Core.Path.{_≡_, sym, _∙_}
-use mathlib.Core.Bool.{true, false}
+use mathlib.Core.Path.{_∙_}
 use borrow.Author.Tests.{lt-ltb, le-ltb, not-true, not-false}
-use Rattle.rules.specs.Records.{slotsOf, parentAt, occupied}
+use Rattle.rules.specs.Records.{slotsOf, parentAt}
 use Rattle.recount.specs.Passes.{countChild}
 use borrow.Author.Needs.{needs}
 use Rattle.recount.proofs.count_child.Statement.{statement}
@@ -14,9 +13,7 @@ is-occupied-requires c κs = tt
 
 returns : tie.Need-returns
 unfolding countChild
-returns c =
-    let e : occupied (c .before .before .before .before .before .args .sequences .now) (c .before .before .before .before .before .args .child .0) ≡ false = sym (c .before .is-occupied .ensures) ∙ not-true (c .before .is-occupied .result) (c .if1 .taken) in
-    rw e
+returns c = rw (← c .before .is-occupied .ensures, not-true (c .before .is-occupied .result) (c .if1 .taken))
 
 word-at-requires : tie.Need-word-at-requires
 word-at-requires c κs = tt
@@ -33,16 +30,27 @@ same-length c = search needs
 returns-2 : tie.Need-returns-2
 unfolding countChild
 returns-2 c =
-    let e : occupied (c .before .before .before .before .before .before .before .before .before .before .before .before .args .sequences .now) (c .before .before .before .before .before .before .before .before .before .before .before .before .args .child .0) ≡ true = sym (c .before .before .before .before .before .before .before .before .is-occupied .ensures) ∙ not-false (c .before .before .before .before .before .before .before .before .is-occupied .result) (c .before .before .before .before .before .before .before .if1 .left) in
-    let l : parentAt (c .before .before .before .before .before .before .before .before .before .before .before .before .args .parents .now) (c .before .before .before .before .before .before .before .before .before .before .before .before .args .child .0) < slotsOf (c .before .before .before .before .before .before .before .before .before .before .before .before .args .sequences .now) = rw (c .before .before .before .before .before .slots .ensures, c .before .before .before .before .before .before .word-at .ensures) at (c .before .before .before .before .if2 .taken) in
-    c .before .before .adjust-head-ref-count .ensures .1 ∙ rw (e, lt-ltb _ _ l, c .before .before .before .before .before .before .word-at .ensures)
+    let args = let p : tie.Start = search in p .args in
+    let is-occupied = let p : tie.After-is-occupied = search in p .is-occupied in
+    let if1 = let p : tie.Else1 = search in p .if1 in
+    let word-at = let p : tie.After-word-at = search in p .word-at in
+    let slots = let p : tie.After-slots = search in p .slots in
+    let if2 = let p : tie.Then2 = search in p .if2 in
+    let adjust-head-ref-count = let p : tie.After-adjust-head-ref-count = search in p .adjust-head-ref-count in
+    let l : parentAt (args .parents .now) (args .child .0) < slotsOf (args .sequences .now) = rw (slots .ensures, word-at .ensures) at (if2 .taken) in
+    adjust-head-ref-count .ensures .1 ∙ rw (← is-occupied .ensures, not-false (is-occupied .result) (if1 .left), lt-ltb _ _ l, word-at .ensures)
 
 returns-3 : tie.Need-returns-3
 unfolding countChild
 returns-3 c =
-    let e : occupied (c .before .before .before .before .before .before .before .before .args .sequences .now) (c .before .before .before .before .before .before .before .before .args .child .0) ≡ true = sym (c .before .before .before .before .is-occupied .ensures) ∙ not-false (c .before .before .before .before .is-occupied .result) (c .before .before .before .if1 .left) in
-    let l : slotsOf (c .before .before .before .before .before .before .before .before .args .sequences .now) ≤ parentAt (c .before .before .before .before .before .before .before .before .args .parents .now) (c .before .before .before .before .before .before .before .before .args .child .0) = rw (c .before .slots .ensures, c .before .before .word-at .ensures) at (c .if2 .left) in
-    rw (e, le-ltb _ _ l)
+    let args = let p : tie.Start = search in p .args in
+    let is-occupied = let p : tie.After-is-occupied = search in p .is-occupied in
+    let if1 = let p : tie.Else1 = search in p .if1 in
+    let word-at = let p : tie.After-word-at = search in p .word-at in
+    let slots = let p : tie.After-slots = search in p .slots in
+    let l : slotsOf (args .sequences .now) ≤ parentAt (args .parents .now) (args .child .0) =
+    rw (slots .ensures, word-at .ensures) at (c .if2 .left) in
+    rw (← is-occupied .ensures, not-false (is-occupied .result) (if1 .left), le-ltb _ _ l)
 
 pub count-child-spec : {M : Type 1} → statement M
 count-child-spec =

@@ -18,7 +18,13 @@ same-length : tie.Need-same-length
 same-length c = search needs
 
 returns : tie.Need-returns
-returns c = c .before .before .raise-counts .ensures ∙ rw (c .before .before .before .before .before .before .count-children .ensures, c .before .before .before .before .before .before .before .before .before .before .clear-counts .ensures) (three-passes (c .before .before .before .before .before .before .before .before .before .before .before .before .before .before .before .args .parents .now) (c .before .before .before .before .before .before .before .before .before .before .before .before .before .before .before .args .sequences .now) (c .before .before .before .before .before .before .before .before .before .before .before .before .before .before .before .args .counts .now))
+returns c =
+    let args = let p : tie.Start = search in p .args in
+    let clear-counts = let p : tie.After-clear-counts = search in p .clear-counts in
+    let count-children = let p : tie.After-count-children = search in p .count-children in
+    let raise-counts = let p : tie.After-raise-counts = search in p .raise-counts in
+    raise-counts .ensures ∙ rw (count-children .ensures, clear-counts .ensures)
+    (three-passes (args .parents .now) (args .sequences .now) (args .counts .now))
 
 pub recompute-head-ref-counts-spec : {M : Type 1} → statement M
 recompute-head-ref-counts-spec =

@@ -1,9 +1,8 @@
 -- The moving head, a freed one, any other.
-use mathlib.Core.Path.{_≡_, refl, sym, _∙_}
-use mathlib.Core.Bool.{true, false}
-use Rattle.rules.specs.Common.{isAt}
-use Rattle.rules.specs.Answers.{headFound}
-use Rattle.rules.specs.Removal.{headFreed, dropHead}
+use native.Mathlib.Omega.{arith}
+use mathlib.Core.Path.{refl, _∙_}
+use Rattle.rules.specs.Removal.{dropHead}
+use Rattle.rules.proofs.Places.{the}
 use Rattle.removal.proofs.drop_head.Statement.{statement}
 use Rattle.removal.proofs.drop_head.Tie as tie
 
@@ -14,13 +13,15 @@ put-word-requires : tie.Need-put-word-requires
 put-word-requires c κs = tt
 
 same-length : tie.Need-same-length
-same-length c = c .before .before .put-word .kept .0
+same-length c = omega arith
 
 returns : tie.Need-returns
 unfolding dropHead
 returns c =
-    let e : isAt (headFound (c .before .before .before .before .before .before .before .before .before .before .before .before .before .args .moving)) (c .before .before .before .before .before .before .before .before .before .before .before .before .before .args .head .0) ≡ true = sym (c .before .before .before .before .before .is-at .ensures) ∙ c .before .before .before .before .if1 .taken in
-    rw (e, c .before .before .put-word .ensures)
+    let is-at = let p : tie.After-is-at = search in p .is-at in
+    let if1 = let p : tie.Then1 = search in p .if1 in
+    let put-word = let p : tie.After-put-word = search in p .put-word in
+    rw (← is-at .ensures, if1 .taken, put-word .ensures)
 
 is-head-freed-requires : tie.Need-is-head-freed-requires
 is-head-freed-requires c κs = tt
@@ -32,29 +33,33 @@ put-head-requires : tie.Need-put-head-requires
 put-head-requires c κs = tt
 
 same-length-2 : tie.Need-same-length-2
-same-length-2 c = c .before .before .before .before .before .before .before .before .before .before .before .before .put-head .kept .0
+same-length-2 c = omega (arith, the tie.After-put-head (search) .put-head .kept)
 
 same-length-3 : tie.Need-same-length-3
-same-length-3 c = c .before .before .before .before .before .before .before .before .before .before .before .before .put-head .kept .1 .0
+same-length-3 c = omega (arith, the tie.After-put-head (search) .put-head .kept)
 
 same-length-4 : tie.Need-same-length-4
-same-length-4 c = c .before .before .before .before .before .before .before .before .before .before .before .before .put-head .kept .1 .1 .0
+same-length-4 c = omega (arith, the tie.After-put-head (search) .put-head .kept)
 
 same-length-5 : tie.Need-same-length-5
-same-length-5 c = c .before .before .before .before .before .before .before .before .before .before .before .before .put-head .kept .1 .1 .1 .0
+same-length-5 c = omega (arith, the tie.After-put-head (search) .put-head .kept)
 
 same-length-6 : tie.Need-same-length-6
-same-length-6 c = c .before .before .before .before .before .before .before .before .before .before .before .before .put-head .kept .1 .1 .1 .1 .0
+same-length-6 c = omega (arith, the tie.After-put-head (search) .put-head .kept)
 
 same-length-7 : tie.Need-same-length-7
-same-length-7 c = c .before .before .before .before .before .before .before .before .before .before .before .before .put-head .kept .1 .1 .1 .1 .1 .0
+same-length-7 c = omega (arith, the tie.After-put-head (search) .put-head .kept)
 
 returns-2 : tie.Need-returns-2
 unfolding dropHead
 returns-2 c =
-    let e : isAt (headFound (c .before .before .before .before .before .before .before .before .before .before .before .before .before .before .before .before .before .before .before .before .before .before .before .before .before .before .before .before .before .before .before .before .args .moving)) (c .before .before .before .before .before .before .before .before .before .before .before .before .before .before .before .before .before .before .before .before .before .before .before .before .before .before .before .before .before .before .before .before .args .head .0) ≡ false = sym (c .before .before .before .before .before .before .before .before .before .before .before .before .before .before .before .before .before .before .before .before .before .before .before .before .is-at .ensures) ∙ c .before .before .before .before .before .before .before .before .before .before .before .before .before .before .before .before .before .before .before .before .before .before .before .if1 .left in
-    let f : headFreed (c .before .before .before .before .before .before .before .before .before .before .before .before .before .before .before .before .before .before .before .before .before .before .before .before .before .before .before .before .before .before .before .before .args .deleted .now) (c .before .before .before .before .before .before .before .before .before .before .before .before .before .before .before .before .before .before .before .before .before .before .before .before .before .before .before .before .before .before .before .before .args .tips .now) (c .before .before .before .before .before .before .before .before .before .before .before .before .before .before .before .before .before .before .before .before .before .before .before .before .before .before .before .before .before .before .before .before .args .head .0) ≡ true = sym (c .before .before .before .before .before .before .before .before .before .before .before .before .before .before .before .before .before .before .before .before .before .is-head-freed .ensures) ∙ c .before .before .before .before .before .before .before .before .before .before .before .before .before .before .before .before .before .before .before .before .if2 .taken in
-    c .before .before .before .before .before .before .before .before .before .before .before .before .put-head .ensures ∙ rw (e, f, c .before .before .before .before .before .before .before .before .before .before .before .before .before .empty .ensures)
+    let is-at = let p : tie.After-is-at = search in p .is-at in
+    let if1 = let p : tie.Else1 = search in p .if1 in
+    let is-head-freed = let p : tie.After-is-head-freed = search in p .is-head-freed in
+    let if2 = let p : tie.Then2 = search in p .if2 in
+    let empty = let p : tie.After-empty = search in p .empty in
+    let put-head = let p : tie.After-put-head = search in p .put-head in
+    put-head .ensures ∙ rw (← is-at .ensures, if1 .left, ← is-head-freed .ensures, if2 .taken, empty .ensures)
 
 same-length-8 : tie.Need-same-length-8
 same-length-8 c = refl
@@ -62,9 +67,10 @@ same-length-8 c = refl
 returns-3 : tie.Need-returns-3
 unfolding dropHead
 returns-3 c =
-    let e : isAt (headFound (c .before .before .before .before .before .before .before .before .before .before .before .before .args .moving)) (c .before .before .before .before .before .before .before .before .before .before .before .before .args .head .0) ≡ false = sym (c .before .before .before .before .is-at .ensures) ∙ c .before .before .before .if1 .left in
-    let f : headFreed (c .before .before .before .before .before .before .before .before .before .before .before .before .args .deleted .now) (c .before .before .before .before .before .before .before .before .before .before .before .before .args .tips .now) (c .before .before .before .before .before .before .before .before .before .before .before .before .args .head .0) ≡ false = sym (c .before .is-head-freed .ensures) ∙ c .if2 .left in
-    rw (e, f)
+    let is-at = let p : tie.After-is-at = search in p .is-at in
+    let if1 = let p : tie.Else1 = search in p .if1 in
+    let is-head-freed = let p : tie.After-is-head-freed = search in p .is-head-freed in
+    rw (← is-at .ensures, if1 .left, ← is-head-freed .ensures, c .if2 .left)
 
 pub drop-head-spec : {M : Type 1} → statement M
 drop-head-spec =

@@ -1,7 +1,7 @@
 -- The heads before `k` are done.
 use native.Mathlib.Omega.{arith}
 use Prim.Native.Nat.{_≤_, _-_}
-use mathlib.Core.Path.{_≡_, refl, sym, _∙_}
+use mathlib.Core.Path.{_≡_, sym, _∙_}
 use lib.ListN.{length}
 use Rattle.rules.specs.Common.{inOrder}
 use Rattle.rules.specs.Records.{headsOf}
@@ -13,7 +13,10 @@ use Rattle.removal.proofs.drop_heads.Tie as tie
 
 abbrev Inv-loop : tie.InvT-loop
 Inv-loop tips₀ tails₀ missing₀ requested₀ arrivals₀ connected₀ deleted moving reattach m k₀ tips tails missing requested arrivals connected k =
-    (k ≤ m) × (((length tips ≡ length tips₀) × ((length tails ≡ length tails₀) × ((length missing ≡ length missing₀) × ((length requested ≡ length requested₀) × ((length arrivals ≡ length arrivals₀) × (length connected ≡ length connected₀)))))) × (headsOf tips tails missing requested arrivals connected ≡ inOrder (dropHead deleted (headFound moving) (reattach .0)) k (headsOf tips₀ tails₀ missing₀ requested₀ arrivals₀ connected₀)))
+    (k ≤ m) × (((length tips ≡ length tips₀) × ((length tails ≡ length tails₀) × ((length missing ≡ length missing₀) ×
+    ((length requested ≡ length requested₀) × ((length arrivals ≡ length arrivals₀) × (length connected ≡ length connected₀)))))) ×
+    (headsOf tips tails missing requested arrivals connected
+    ≡ inOrder (dropHead deleted (headFound moving) (reattach .0)) k (headsOf tips₀ tails₀ missing₀ requested₀ arrivals₀ connected₀)))
 
 abbrev μ-loop : tie.MeasureT-loop
 μ-loop tips₀ tails₀ missing₀ requested₀ arrivals₀ connected₀ deleted moving reattach m k₀ tips tails missing requested arrivals connected k = m - k
@@ -22,7 +25,7 @@ slots-requires : tie.Need-slots-requires Inv-loop μ-loop
 slots-requires c κs = tt
 
 loop-holds : tie.Need-loop-holds Inv-loop μ-loop
-loop-holds c = (omega arith, ((refl, (refl, (refl, (refl, (refl, refl))))), sym (in-order-none _ _)))
+loop-holds c = (omega arith, (omega arith, sym (in-order-none _ _)))
 
 drop-head-requires : tie.Need-drop-head-requires Inv-loop μ-loop
 drop-head-requires c κs = tt
@@ -35,32 +38,32 @@ loop-less c = omega arith
 
 loop-again : tie.Need-loop-again Inv-loop μ-loop
 loop-again c =
-    let u = c .before .before .before .before .before .before .before .before .before .before .before .before .drop-head in
-    let l = c .before .before .before .before .before .before .before .before .before .before .before .before .before .before .before .before .before .before .before .before .loop in (
+    let l = let p : tie.At-loop Inv-loop μ-loop = search in p .loop in
+    let u = let p : tie.After-drop-head Inv-loop μ-loop = search in p .drop-head in (
       omega arith,
       (
-        (u .kept .0 ∙ l .inv .1 .0 .0, (u .kept .1 .0 ∙ l .inv .1 .0 .1 .0, (u .kept .1 .1 .0 ∙ l .inv .1 .0 .1 .1 .0, (u .kept .1 .1 .1 .0 ∙ l .inv .1 .0 .1 .1 .1 .0, (u .kept .1 .1 .1 .1 .0 ∙ l .inv .1 .0 .1 .1 .1 .1 .0, u .kept .1 .1 .1 .1 .1 .0 ∙ l .inv .1 .0 .1 .1 .1 .1 .1))))),
+        omega (arith, u .kept, l .inv),
         u .ensures ∙ rw (l .inv .1 .1, in-order-next),
       ),
     )
 
 same-length : tie.Need-same-length Inv-loop μ-loop
-same-length c = c .before .loop .inv .1 .0 .0
+same-length c = omega arith
 
 same-length-2 : tie.Need-same-length-2 Inv-loop μ-loop
-same-length-2 c = c .before .loop .inv .1 .0 .1 .0
+same-length-2 c = omega arith
 
 same-length-3 : tie.Need-same-length-3 Inv-loop μ-loop
-same-length-3 c = c .before .loop .inv .1 .0 .1 .1 .0
+same-length-3 c = omega arith
 
 same-length-4 : tie.Need-same-length-4 Inv-loop μ-loop
-same-length-4 c = c .before .loop .inv .1 .0 .1 .1 .1 .0
+same-length-4 c = omega arith
 
 same-length-5 : tie.Need-same-length-5 Inv-loop μ-loop
-same-length-5 c = c .before .loop .inv .1 .0 .1 .1 .1 .1 .0
+same-length-5 c = omega arith
 
 same-length-6 : tie.Need-same-length-6 Inv-loop μ-loop
-same-length-6 c = c .before .loop .inv .1 .0 .1 .1 .1 .1 .1
+same-length-6 c = omega arith
 
 returns : tie.Need-returns Inv-loop μ-loop
 unfolding dropHeads

@@ -1,7 +1,18 @@
 -- Freed, then the heads.
-use mathlib.Core.Path.{_∙_}
+use native.Mathlib.Omega.{arith}
+use mathlib.Core.Path.{_≡_, _∙_}
+use mathlib.Core.List.{List}
+use Prim.Native.Nat.{ℕ}
+use Rattle.rules.specs.Records.{Blocks, Tables}
+use Rattle.rules.specs.Removal.{freeAll, blocksDeleted}
 use Rattle.remove_call.proofs.remove_listed.Statement.{statement}
 use Rattle.remove_call.proofs.remove_listed.Tie as tie
+
+abbrev to-free-all : tie.After-on-blocks-deleted → tie.After-free-all
+to-free-all c = search
+
+abbrev to-word-at : tie.After-free-all → tie.After-word-at
+to-word-at c = search
 
 word-at-requires : tie.Need-word-at-requires
 word-at-requires c κs = tt
@@ -13,40 +24,71 @@ on-blocks-deleted-requires : tie.Need-on-blocks-deleted-requires
 on-blocks-deleted-requires c κs = tt
 
 same-length : tie.Need-same-length
-same-length c = c .before .before .before .before .before .before .before .before .before .before .before .before .before .before .before .before .before .before .before .before .before .before .before .before .before .before .before .before .before .before .before .before .before .before .before .before .free-all .kept .0
+same-length c =
+    let p : tie.After-on-blocks-deleted = search in
+    omega (arith, p .on-blocks-deleted .kept, to-free-all p .free-all .kept)
 
 same-length-2 : tie.Need-same-length-2
-same-length-2 c = c .before .before .before .before .before .before .before .before .before .before .before .before .before .before .before .before .before .before .before .before .before .before .before .before .before .before .before .before .before .before .before .before .before .before .before .before .free-all .kept .1 .0
+same-length-2 c =
+    let p : tie.After-on-blocks-deleted = search in
+    omega (arith, p .on-blocks-deleted .kept, to-free-all p .free-all .kept)
 
 same-length-3 : tie.Need-same-length-3
-same-length-3 c = c .before .before .before .before .before .before .before .before .before .before .before .before .before .before .before .before .before .before .before .before .before .before .before .before .before .before .before .before .before .before .before .before .before .before .before .before .free-all .kept .1 .1 .0
+same-length-3 c =
+    let p : tie.After-on-blocks-deleted = search in
+    omega (arith, p .on-blocks-deleted .kept, to-free-all p .free-all .kept)
 
 same-length-4 : tie.Need-same-length-4
-same-length-4 c = c .before .before .before .before .before .before .before .before .before .before .before .before .before .before .on-blocks-deleted .kept .1 .1 .1 .0 ∙ c .before .before .before .before .before .before .before .before .before .before .before .before .before .before .before .before .before .before .before .before .before .before .before .before .before .before .before .before .before .before .before .before .before .before .before .before .free-all .kept .1 .1 .1 .0
+same-length-4 c =
+    let p : tie.After-on-blocks-deleted = search in
+    omega (arith, p .on-blocks-deleted .kept, to-free-all p .free-all .kept)
 
 same-length-5 : tie.Need-same-length-5
-same-length-5 c = c .before .before .before .before .before .before .before .before .before .before .before .before .before .before .before .before .before .before .before .before .before .before .before .before .before .before .before .before .before .before .before .before .before .before .before .before .free-all .kept .1 .1 .1 .1 .0
+same-length-5 c =
+    let p : tie.After-on-blocks-deleted = search in
+    omega (arith, p .on-blocks-deleted .kept, to-free-all p .free-all .kept)
 
 same-length-6 : tie.Need-same-length-6
-same-length-6 c = c .before .before .before .before .before .before .before .before .before .before .before .before .before .before .on-blocks-deleted .kept .1 .1 .1 .1 .1 .0
+same-length-6 c =
+    let p : tie.After-on-blocks-deleted = search in
+    omega (arith, p .on-blocks-deleted .kept, to-free-all p .free-all .kept)
 
 same-length-7 : tie.Need-same-length-7
-same-length-7 c = c .before .before .before .before .before .before .before .before .before .before .before .before .before .before .on-blocks-deleted .kept .1 .1 .1 .1 .1 .1 .0
+same-length-7 c =
+    let p : tie.After-on-blocks-deleted = search in
+    omega (arith, p .on-blocks-deleted .kept, to-free-all p .free-all .kept)
 
 same-length-8 : tie.Need-same-length-8
-same-length-8 c = c .before .before .before .before .before .before .before .before .before .before .before .before .before .before .on-blocks-deleted .kept .1 .1 .1 .1 .1 .1 .1 .0
+same-length-8 c =
+    let p : tie.After-on-blocks-deleted = search in
+    omega (arith, p .on-blocks-deleted .kept, to-free-all p .free-all .kept)
 
 same-length-9 : tie.Need-same-length-9
-same-length-9 c = c .before .before .before .before .before .before .before .before .before .before .before .before .before .before .on-blocks-deleted .kept .1 .1 .1 .1 .1 .1 .1 .1 .0
+same-length-9 c =
+    let p : tie.After-on-blocks-deleted = search in
+    omega (arith, p .on-blocks-deleted .kept, to-free-all p .free-all .kept)
 
 same-length-10 : tie.Need-same-length-10
-same-length-10 c = c .before .before .before .before .before .before .before .before .before .before .before .before .before .before .on-blocks-deleted .kept .1 .1 .1 .1 .1 .1 .1 .1 .1 .0
+same-length-10 c =
+    let p : tie.After-on-blocks-deleted = search in
+    omega (arith, p .on-blocks-deleted .kept, to-free-all p .free-all .kept)
 
 same-length-11 : tie.Need-same-length-11
-same-length-11 c = c .before .before .before .before .before .before .before .before .before .before .before .before .before .before .on-blocks-deleted .kept .1 .1 .1 .1 .1 .1 .1 .1 .1 .1 .0
+same-length-11 c =
+    let p : tie.After-on-blocks-deleted = search in
+    omega (arith, p .on-blocks-deleted .kept, to-free-all p .free-all .kept)
+
+-- the three steps as one, of any tables
+steps : (t v : Tables) (b : Blocks) (deleted : List ℕ) (parent up : ℕ)
+    → up ≡ parent → b ≡ freeAll deleted (t .blocks) → v ≡ blocksDeleted (record { blocks = b; heads = t .heads }) deleted up
+    → v ≡ blocksDeleted (record { blocks = freeAll deleted (t .blocks); heads = t .heads }) deleted parent
+steps t v b deleted parent up e f g = g ∙ rw (f, e)
 
 returns : tie.Need-returns
-returns c = c .before .before .before .before .before .before .before .before .before .before .before .before .before .before .on-blocks-deleted .ensures ∙ rw (c .before .before .before .before .before .before .before .before .before .before .before .before .before .before .before .before .before .before .before .before .before .before .before .before .before .before .before .before .before .before .before .before .before .before .before .before .free-all .ensures, c .before .before .before .before .before .before .before .before .before .before .before .before .before .before .before .before .before .before .before .before .before .before .before .before .before .before .before .before .before .before .before .before .before .before .before .before .before .before .before .before .before .before .word-at .ensures)
+returns c =
+    let d : tie.After-on-blocks-deleted = search in
+    let f = to-free-all d in
+    steps _ _ _ _ _ _ (to-word-at f .word-at .ensures) (f .free-all .ensures) (d .on-blocks-deleted .ensures)
 
 pub remove-listed-spec : {M : Type 1} → statement M
 remove-listed-spec =

@@ -1,12 +1,21 @@
--- Heads emptied, counts set, then the rebuild.
-use mathlib.Core.Path.{_≡_, refl, sym, _∙_}
-use mathlib.Core.Bool.{true, false}
+-- The heads emptied, the counts set, the heads rebuilt.
+use native.Mathlib.Omega.{arith}
+use mathlib.Core.Path.{refl, sym, _∙_}
+use borrow.Author.Needs.{needs}
 use borrow.Author.Tests.{not-true, not-false}
-use Rattle.rules.specs.Records.{tablesOf}
-use Rattle.rules.specs.Calls.{shaped, restart}
-use Rattle.restart_call.proofs.Restarted.{restart-done}
+use Rattle.rules.proofs.Places.{the}
+use Rattle.restart_call.proofs.Restarted.{misshapen, rebuilt-anew}
 use Rattle.restart_call.proofs.restart.Statement.{statement}
 use Rattle.restart_call.proofs.restart.Tie as tie
+
+abbrev counted : tie.After-rebuild-from-blocks → tie.After-recompute-head-ref-counts
+counted c = search
+
+abbrev emptied : tie.After-recompute-head-ref-counts → tie.After-empty-heads
+emptied c = search
+
+abbrev tested : tie.After-empty-heads → tie.Else1
+tested c = search
 
 is-shaped-requires : tie.Need-is-shaped-requires
 is-shaped-requires c κs = tt
@@ -45,11 +54,10 @@ same-length-11 : tie.Need-same-length-11
 same-length-11 c = refl
 
 returns : tie.Need-returns
-unfolding restart
 returns c =
-    let p = c .before .before .before .before .before .before .before .before .before .before .before .before .before .before .before .before .before .before .before .before .before .before .before .before .args in
-    let e : shaped (tablesOf (p .hashes .now) (p .parents .now) (p .sequences .now) (p .counts .now) (p .flags .now) (p .tips .now) (p .tails .now) (p .missing .now) (p .requested .now) (p .arrivals .now) (p .connected .now)) ≡ false = sym (c .before .is-shaped .ensures) ∙ not-true (c .before .is-shaped .result) (c .if1 .taken) in
-    (rw e, rw e)
+    let b = the tie.Then1 (search) in
+    let s = b .before .is-shaped in
+    misshapen _ _ (sym (s .ensures) ∙ not-true (s .result) (b .if1 .taken))
 
 empty-heads-requires : tie.Need-empty-heads-requires
 empty-heads-requires c κs = tt
@@ -61,44 +69,46 @@ rebuild-from-blocks-requires : tie.Need-rebuild-from-blocks-requires
 rebuild-from-blocks-requires c κs = tt
 
 same-length-12 : tie.Need-same-length-12
-same-length-12 c = c .before .before .before .before .before .before .before .before .before .before .before .before .before .before .before .before .before .before .before .before .before .before .rebuild-from-blocks .kept .0
+same-length-12 c = let r = the tie.After-rebuild-from-blocks (search) in let k = counted r in omega (arith, r .rebuild-from-blocks .kept, k .recompute-head-ref-counts .kept, emptied k .empty-heads .kept)
 
 same-length-13 : tie.Need-same-length-13
-same-length-13 c = c .before .before .before .before .before .before .before .before .before .before .before .before .before .before .before .before .before .before .before .before .before .before .rebuild-from-blocks .kept .1 .0
+same-length-13 c = let r = the tie.After-rebuild-from-blocks (search) in let k = counted r in omega (arith, r .rebuild-from-blocks .kept, k .recompute-head-ref-counts .kept, emptied k .empty-heads .kept)
 
 same-length-14 : tie.Need-same-length-14
-same-length-14 c = c .before .before .before .before .before .before .before .before .before .before .before .before .before .before .before .before .before .before .before .before .before .before .rebuild-from-blocks .kept .1 .1 .0
+same-length-14 c = let r = the tie.After-rebuild-from-blocks (search) in let k = counted r in omega (arith, r .rebuild-from-blocks .kept, k .recompute-head-ref-counts .kept, emptied k .empty-heads .kept)
 
 same-length-15 : tie.Need-same-length-15
-same-length-15 c = c .before .before .before .before .before .before .before .before .before .before .before .before .before .before .before .before .before .before .before .before .before .before .rebuild-from-blocks .kept .1 .1 .1 .0 ∙ c .before .before .before .before .before .before .before .before .before .before .before .before .before .before .before .before .before .before .before .before .before .before .before .before .before .before .before .before .before .before .before .before .before .before .before .before .recompute-head-ref-counts .kept .1 .1 .0
+same-length-15 c = let r = the tie.After-rebuild-from-blocks (search) in let k = counted r in omega (arith, r .rebuild-from-blocks .kept, k .recompute-head-ref-counts .kept, emptied k .empty-heads .kept)
 
 same-length-16 : tie.Need-same-length-16
-same-length-16 c = c .before .before .before .before .before .before .before .before .before .before .before .before .before .before .before .before .before .before .before .before .before .before .rebuild-from-blocks .kept .1 .1 .1 .1 .0
+same-length-16 c = let r = the tie.After-rebuild-from-blocks (search) in let k = counted r in omega (arith, r .rebuild-from-blocks .kept, k .recompute-head-ref-counts .kept, emptied k .empty-heads .kept)
 
 same-length-17 : tie.Need-same-length-17
-same-length-17 c = c .before .before .before .before .before .before .before .before .before .before .before .before .before .before .before .before .before .before .before .before .before .before .rebuild-from-blocks .kept .1 .1 .1 .1 .1 .0 ∙ c .before .before .before .before .before .before .before .before .before .before .before .before .before .before .before .before .before .before .before .before .before .before .before .before .before .before .before .before .before .before .before .before .before .before .before .before .before .before .before .before .before .before .before .before .before .before .before .before .before .before .before .before .empty-heads .kept .0
+same-length-17 c = let r = the tie.After-rebuild-from-blocks (search) in let k = counted r in omega (arith, r .rebuild-from-blocks .kept, k .recompute-head-ref-counts .kept, emptied k .empty-heads .kept)
 
 same-length-18 : tie.Need-same-length-18
-same-length-18 c = c .before .before .before .before .before .before .before .before .before .before .before .before .before .before .before .before .before .before .before .before .before .before .rebuild-from-blocks .kept .1 .1 .1 .1 .1 .1 .0 ∙ c .before .before .before .before .before .before .before .before .before .before .before .before .before .before .before .before .before .before .before .before .before .before .before .before .before .before .before .before .before .before .before .before .before .before .before .before .before .before .before .before .before .before .before .before .before .before .before .before .before .before .before .before .empty-heads .kept .1 .0
+same-length-18 c = let r = the tie.After-rebuild-from-blocks (search) in let k = counted r in omega (arith, r .rebuild-from-blocks .kept, k .recompute-head-ref-counts .kept, emptied k .empty-heads .kept)
 
 same-length-19 : tie.Need-same-length-19
-same-length-19 c = c .before .before .before .before .before .before .before .before .before .before .before .before .before .before .before .before .before .before .before .before .before .before .rebuild-from-blocks .kept .1 .1 .1 .1 .1 .1 .1 .0 ∙ c .before .before .before .before .before .before .before .before .before .before .before .before .before .before .before .before .before .before .before .before .before .before .before .before .before .before .before .before .before .before .before .before .before .before .before .before .before .before .before .before .before .before .before .before .before .before .before .before .before .before .before .before .empty-heads .kept .1 .1 .0
+same-length-19 c = let r = the tie.After-rebuild-from-blocks (search) in let k = counted r in omega (arith, r .rebuild-from-blocks .kept, k .recompute-head-ref-counts .kept, emptied k .empty-heads .kept)
 
 same-length-20 : tie.Need-same-length-20
-same-length-20 c = c .before .before .before .before .before .before .before .before .before .before .before .before .before .before .before .before .before .before .before .before .before .before .rebuild-from-blocks .kept .1 .1 .1 .1 .1 .1 .1 .1 .0 ∙ c .before .before .before .before .before .before .before .before .before .before .before .before .before .before .before .before .before .before .before .before .before .before .before .before .before .before .before .before .before .before .before .before .before .before .before .before .before .before .before .before .before .before .before .before .before .before .before .before .before .before .before .before .empty-heads .kept .1 .1 .1 .0
+same-length-20 c = let r = the tie.After-rebuild-from-blocks (search) in let k = counted r in omega (arith, r .rebuild-from-blocks .kept, k .recompute-head-ref-counts .kept, emptied k .empty-heads .kept)
 
 same-length-21 : tie.Need-same-length-21
-same-length-21 c = c .before .before .before .before .before .before .before .before .before .before .before .before .before .before .before .before .before .before .before .before .before .before .rebuild-from-blocks .kept .1 .1 .1 .1 .1 .1 .1 .1 .1 .0 ∙ c .before .before .before .before .before .before .before .before .before .before .before .before .before .before .before .before .before .before .before .before .before .before .before .before .before .before .before .before .before .before .before .before .before .before .before .before .before .before .before .before .before .before .before .before .before .before .before .before .before .before .before .before .empty-heads .kept .1 .1 .1 .1 .0
+same-length-21 c = let r = the tie.After-rebuild-from-blocks (search) in let k = counted r in omega (arith, r .rebuild-from-blocks .kept, k .recompute-head-ref-counts .kept, emptied k .empty-heads .kept)
 
 same-length-22 : tie.Need-same-length-22
-same-length-22 c = c .before .before .before .before .before .before .before .before .before .before .before .before .before .before .before .before .before .before .before .before .before .before .rebuild-from-blocks .kept .1 .1 .1 .1 .1 .1 .1 .1 .1 .1 .0 ∙ c .before .before .before .before .before .before .before .before .before .before .before .before .before .before .before .before .before .before .before .before .before .before .before .before .before .before .before .before .before .before .before .before .before .before .before .before .before .before .before .before .before .before .before .before .before .before .before .before .before .before .before .before .empty-heads .kept .1 .1 .1 .1 .1 .0
+same-length-22 c = let r = the tie.After-rebuild-from-blocks (search) in let k = counted r in omega (arith, r .rebuild-from-blocks .kept, k .recompute-head-ref-counts .kept, emptied k .empty-heads .kept)
 
 returns-2 : tie.Need-returns-2
 returns-2 c =
-    let p = c .before .before .before .before .before .before .before .before .before .before .before .before .before .before .before .before .before .before .before .before .before .before .before .before .before .before .before .before .before .before .before .before .before .before .before .before .before .before .before .before .before .before .before .before .before .before .before .before .before .before .before .before .before .before .before .before .before .before .before .before .before .before .before .before .before .before .before .before .before .before .before .before .before .before .before .before .before .before .before .before .before .before .before .args in
-    let e : shaped (tablesOf (p .hashes .now) (p .parents .now) (p .sequences .now) (p .counts .now) (p .flags .now) (p .tips .now) (p .tails .now) (p .missing .now) (p .requested .now) (p .arrivals .now) (p .connected .now)) ≡ true = sym (c .before .before .before .before .before .before .before .before .before .before .before .before .before .before .before .before .before .before .before .before .before .before .before .before .before .before .before .before .before .before .before .before .before .before .before .before .before .before .before .before .before .before .before .before .before .before .before .before .before .before .before .before .before .before .before .before .before .before .before .before .is-shaped .ensures) ∙ not-false (c .before .before .before .before .before .before .before .before .before .before .before .before .before .before .before .before .before .before .before .before .before .before .before .before .before .before .before .before .before .before .before .before .before .before .before .before .before .before .before .before .before .before .before .before .before .before .before .before .before .before .before .before .before .before .before .before .before .before .before .before .is-shaped .result) (c .before .before .before .before .before .before .before .before .before .before .before .before .before .before .before .before .before .before .before .before .before .before .before .before .before .before .before .before .before .before .before .before .before .before .before .before .before .before .before .before .before .before .before .before .before .before .before .before .before .before .before .before .before .before .before .before .before .before .before .if1 .left) in
-    let d = restart-done (tablesOf (p .hashes .now) (p .parents .now) (p .sequences .now) (p .counts .now) (p .flags .now) (p .tips .now) (p .tails .now) (p .missing .now) (p .requested .now) (p .arrivals .now) (p .connected .now)) e (p .clock) (p .active .0) _ _ (c .before .before .before .before .before .before .before .before .before .before .before .before .before .before .before .before .before .before .before .before .before .before .before .before .before .before .before .before .before .before .before .before .before .before .before .before .recompute-head-ref-counts .ensures) (c .before .before .before .before .before .before .before .before .before .before .before .before .before .before .before .before .before .before .before .before .before .before .before .before .before .before .before .before .before .before .before .before .before .before .before .before .before .before .before .before .before .before .before .before .before .before .before .before .before .before .before .before .empty-heads .ensures) in
-    (d .0, c .before .before .before .before .before .before .before .before .before .before .before .before .before .before .before .before .before .before .before .before .before .before .rebuild-from-blocks .ensures ∙ d .1)
+    let r = the tie.After-rebuild-from-blocks (search) in
+    let k = counted r in
+    let h = emptied k in
+    let e = tested h in
+    let s = e .before .is-shaped in
+    rebuilt-anew _ _ _ _ _ (sym (s .ensures) ∙ not-false (s .result) (e .if1 .left)) (h .empty-heads .ensures) (k .recompute-head-ref-counts .ensures) (r .rebuild-from-blocks .ensures)
 
 pub restart-spec : {M : Type 1} → statement M
 restart-spec =

@@ -3,7 +3,7 @@ use native.Mathlib.Omega.{arith}
 use Prim.Native.Nat.{_*_}
 use borrow.Author.Tests.{eq-eqb, ne-eqb}
 use lib.ListN.{length}
-use Rattle.rules.specs.Calls.{blocksFit}
+use Rattle.rules.specs.Records.{blocksFit}
 use Rattle.shape.proofs.blocks_fit.Statement.{statement}
 use Rattle.shape.proofs.blocks_fit.Tie as tie
 
@@ -22,20 +22,36 @@ returns-2 c =
 returns-3 : tie.Need-returns-3
 unfolding blocksFit
 returns-3 c =
-    let p = c .before .before .before .args in
-    rw (eq-eqb (length (p .hashes .now)) ((length (p .parents .now)) * 32) (omega (arith, c .before .before .if1 .left, c .before .if2 .left)), ne-eqb _ _ (c .if3 .taken))
+    let p = let q : tie.Start = search in q .args in
+    let if1 = let p : tie.Else1 = search in p .if1 in
+    let if2 = let p : tie.Else2 = search in p .if2 in
+    rw (eq-eqb (length (p .hashes .now)) ((length (p .parents .now)) * 32) (omega (arith, if1 .left, if2 .left)), ne-eqb _ _ (c .if3 .taken))
 
 returns-4 : tie.Need-returns-4
 unfolding blocksFit
 returns-4 c =
-    let p = c .before .before .before .before .args in
-    rw (eq-eqb (length (p .hashes .now)) ((length (p .parents .now)) * 32) (omega (arith, c .before .before .before .if1 .left, c .before .before .if2 .left)), eq-eqb _ _ (c .before .if3 .left), ne-eqb _ _ (c .if4 .taken))
+    let p = let q : tie.Start = search in q .args in
+    let if1 = let p : tie.Else1 = search in p .if1 in
+    let if2 = let p : tie.Else2 = search in p .if2 in
+    let if3 = let p : tie.Else3 = search in p .if3 in
+    rw (
+      eq-eqb (length (p .hashes .now)) ((length (p .parents .now)) * 32) (omega (arith, if1 .left, if2 .left)),
+      eq-eqb _ _ (if3 .left),
+      ne-eqb _ _ (c .if4 .taken),
+    )
 
 returns-5 : tie.Need-returns-5
 unfolding blocksFit
 returns-5 c =
-    let p = c .before .before .before .before .args in
-    rw (eq-eqb (length (p .hashes .now)) ((length (p .parents .now)) * 32) (omega (arith, c .before .before .before .if1 .left, c .before .before .if2 .left)), eq-eqb _ _ (c .before .if3 .left), eq-eqb _ _ (c .if4 .left))
+    let p = let q : tie.Start = search in q .args in
+    let if1 = let p : tie.Else1 = search in p .if1 in
+    let if2 = let p : tie.Else2 = search in p .if2 in
+    let if3 = let p : tie.Else3 = search in p .if3 in
+    rw (
+      eq-eqb (length (p .hashes .now)) ((length (p .parents .now)) * 32) (omega (arith, if1 .left, if2 .left)),
+      eq-eqb _ _ (if3 .left),
+      eq-eqb _ _ (c .if4 .left),
+    )
 
 pub blocks-fit-spec : {M : Type 1} → statement M
 blocks-fit-spec = tie.close (tie.spec returns returns-2 returns-3 returns-4 returns-5)

@@ -3,7 +3,7 @@ use native.Mathlib.Omega.{arith}
 use Prim.Native.Nat.{_*_}
 use borrow.Author.Tests.{eq-eqb, ne-eqb}
 use lib.ListN.{length}
-use Rattle.rules.specs.Calls.{headsFit}
+use Rattle.rules.specs.Records.{headsFit}
 use Rattle.shape.proofs.heads_fit.Statement.{statement}
 use Rattle.shape.proofs.heads_fit.Tie as tie
 
@@ -20,26 +20,52 @@ returns-2 c =
 returns-3 : tie.Need-returns-3
 unfolding headsFit
 returns-3 c =
-    let p = c .before .before .before .args in
-    rw (eq-eqb _ _ (c .before .before .if1 .left), ne-eqb (length (p .missing .now)) ((length (p .tips .now)) * 32) (λ q. c .if3 .taken (omega (arith, q))))
+    let p = let q : tie.Start = search in q .args in
+    let if1 = let p : tie.Else1 = search in p .if1 in
+    rw (eq-eqb _ _ (if1 .left), ne-eqb (length (p .missing .now)) ((length (p .tips .now)) * 32) (λ q. c .if3 .taken (omega (arith, q))))
 
 returns-4 : tie.Need-returns-4
 unfolding headsFit
 returns-4 c =
-    let p = c .before .before .before .before .args in
-    rw (eq-eqb _ _ (c .before .before .before .if1 .left), eq-eqb (length (p .missing .now)) ((length (p .tips .now)) * 32) (omega (arith, c .before .before .if2 .left, c .before .if3 .left)), ne-eqb _ _ (c .if4 .taken))
+    let p = let q : tie.Start = search in q .args in
+    let if1 = let p : tie.Else1 = search in p .if1 in
+    let if2 = let p : tie.Else2 = search in p .if2 in
+    let if3 = let p : tie.Else3 = search in p .if3 in
+    rw (
+      eq-eqb _ _ (if1 .left),
+      eq-eqb (length (p .missing .now)) ((length (p .tips .now)) * 32) (omega (arith, if2 .left, if3 .left)),
+      ne-eqb _ _ (c .if4 .taken),
+    )
 
 returns-5 : tie.Need-returns-5
 unfolding headsFit
 returns-5 c =
-    let p = c .before .before .before .before .before .args in
-    rw (eq-eqb _ _ (c .before .before .before .before .if1 .left), eq-eqb (length (p .missing .now)) ((length (p .tips .now)) * 32) (omega (arith, c .before .before .before .if2 .left, c .before .before .if3 .left)), eq-eqb _ _ (c .before .if4 .left), ne-eqb _ _ (c .if5 .taken))
+    let p = let q : tie.Start = search in q .args in
+    let if1 = let p : tie.Else1 = search in p .if1 in
+    let if2 = let p : tie.Else2 = search in p .if2 in
+    let if3 = let p : tie.Else3 = search in p .if3 in
+    let if4 = let p : tie.Else4 = search in p .if4 in
+    rw (
+      eq-eqb _ _ (if1 .left),
+      eq-eqb (length (p .missing .now)) ((length (p .tips .now)) * 32) (omega (arith, if2 .left, if3 .left)),
+      eq-eqb _ _ (if4 .left),
+      ne-eqb _ _ (c .if5 .taken),
+    )
 
 returns-6 : tie.Need-returns-6
 unfolding headsFit
 returns-6 c =
-    let p = c .before .before .before .before .before .args in
-    rw (eq-eqb _ _ (c .before .before .before .before .if1 .left), eq-eqb (length (p .missing .now)) ((length (p .tips .now)) * 32) (omega (arith, c .before .before .before .if2 .left, c .before .before .if3 .left)), eq-eqb _ _ (c .before .if4 .left), eq-eqb _ _ (c .if5 .left))
+    let p = let q : tie.Start = search in q .args in
+    let if1 = let p : tie.Else1 = search in p .if1 in
+    let if2 = let p : tie.Else2 = search in p .if2 in
+    let if3 = let p : tie.Else3 = search in p .if3 in
+    let if4 = let p : tie.Else4 = search in p .if4 in
+    rw (
+      eq-eqb _ _ (if1 .left),
+      eq-eqb (length (p .missing .now)) ((length (p .tips .now)) * 32) (omega (arith, if2 .left, if3 .left)),
+      eq-eqb _ _ (if4 .left),
+      eq-eqb _ _ (c .if5 .left),
+    )
 
 pub heads-fit-spec : {M : Type 1} → statement M
 heads-fit-spec = tie.close (tie.spec returns returns-2 returns-3 returns-4 returns-5 returns-6)

@@ -24,9 +24,13 @@ is-occupied-requires c κs = tt
 returns-3 : tie.Need-returns-3
 unfolding above
 returns-3 c =
-    let b = c .before .before .before in
-    let o : occupied (b .before .before .before .before .before .before .before .args .sequences .now) (b .before .before .before .before .before .before .before .args .slot .0) ≡ false = sym (c .before .is-occupied .ensures) ∙ not-true (c .before .is-occupied .result) (c .if3 .taken) in
-    rw (ne-eqb _ _ (b .before .if1 .left), eq-eqb _ _ (sym (b .byte-at .ensures) ∙ c .before .before .if2 .left), o)
+    let args = let p : tie.Start = search in p .args in
+    let if1 = let p : tie.Else1 = search in p .if1 in
+    let byte-at = let p : tie.After-byte-at = search in p .byte-at in
+    let if2 = let p : tie.Else2 = search in p .if2 in
+    let is-occupied = let p : tie.After-is-occupied = search in p .is-occupied in
+    let o : occupied (args .sequences .now) (args .slot .0) ≡ false = sym (is-occupied .ensures) ∙ not-true (is-occupied .result) (c .if3 .taken) in
+    rw (ne-eqb _ _ (if1 .left), eq-eqb _ _ (sym (byte-at .ensures) ∙ if2 .left), o)
 
 word-at-requires : tie.Need-word-at-requires
 word-at-requires c κs = tt
@@ -34,9 +38,14 @@ word-at-requires c κs = tt
 returns-4 : tie.Need-returns-4
 unfolding above
 returns-4 c =
-    let b = c .before .before .before .before in
-    let o : occupied (b .before .before .before .before .before .before .before .args .sequences .now) (b .before .before .before .before .before .before .before .args .slot .0) ≡ true = sym (c .before .before .is-occupied .ensures) ∙ not-false (c .before .before .is-occupied .result) (c .before .if3 .left) in
-    rw (ne-eqb _ _ (b .before .if1 .left), eq-eqb _ _ (sym (b .byte-at .ensures) ∙ c .before .before .before .if2 .left), o) (c .word-at .ensures)
+    let args = let p : tie.Start = search in p .args in
+    let if1 = let p : tie.Else1 = search in p .if1 in
+    let byte-at = let p : tie.After-byte-at = search in p .byte-at in
+    let if2 = let p : tie.Else2 = search in p .if2 in
+    let is-occupied = let p : tie.After-is-occupied = search in p .is-occupied in
+    let if3 = let p : tie.Else3 = search in p .if3 in
+    let o : occupied (args .sequences .now) (args .slot .0) ≡ true = sym (is-occupied .ensures) ∙ not-false (is-occupied .result) (if3 .left) in
+    rw (ne-eqb _ _ (if1 .left), eq-eqb _ _ (sym (byte-at .ensures) ∙ if2 .left), o) (c .word-at .ensures)
 
 pub above-spec : {M : Type 1} → statement M
 above-spec =

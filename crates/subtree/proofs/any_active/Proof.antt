@@ -28,9 +28,10 @@ is-on-active-chain-requires c κs = tt
 
 returns : tie.Need-returns Inv-loop μ-loop
 returns c =
-    let l = c .before .before .before .before .loop in
-    let a = c .before .before .before .before .before .before .before .args in
-    sym (any-here (a .flags .now) (a .listed .now) (l .at) (omega arith) (sym (c .before .is-on-active-chain .ensures) ∙ c .if1 .taken)) ∙ l .inv .1
+    let is-on-active-chain = let p : tie.After-is-on-active-chain Inv-loop μ-loop = search in p .is-on-active-chain in
+    let l = let p : tie.At-loop Inv-loop μ-loop = search in p .loop in
+    let a = let p : tie.Start Inv-loop μ-loop = search in p .args in
+    sym (any-here (a .flags .now) (a .listed .now) (l .at) (omega arith) (sym (is-on-active-chain .ensures) ∙ c .if1 .taken)) ∙ l .inv .1
 
 add-at : tie.Need-add-at Inv-loop μ-loop
 add-at c = omega arith
@@ -40,14 +41,18 @@ loop-less c = omega arith
 
 loop-again : tie.Need-loop-again Inv-loop μ-loop
 loop-again c =
-    let l = c .before .before .before .before .loop in
-    let a = c .before .before .before .before .before .before .before .args in
-    (omega arith, sym (any-next (a .flags .now) (a .listed .now) (l .at) (omega arith) (sym (c .before .is-on-active-chain .ensures) ∙ c .if1 .left)) ∙ l .inv .1)
+    let is-on-active-chain = let p : tie.After-is-on-active-chain Inv-loop μ-loop = search in p .is-on-active-chain in
+    let l = let p : tie.At-loop Inv-loop μ-loop = search in p .loop in
+    let a = let p : tie.Start Inv-loop μ-loop = search in p .args in (
+      omega arith,
+      sym (any-next (a .flags .now) (a .listed .now) (l .at) (omega arith) (sym (is-on-active-chain .ensures) ∙ c .if1 .left))
+          ∙ l .inv .1,
+    )
 
 returns-2 : tie.Need-returns-2 Inv-loop μ-loop
 returns-2 c =
-    let l = c .before .loop in
-    let a = c .before .before .before .before .args in
+    let l = let p : tie.At-loop Inv-loop μ-loop = search in p .loop in
+    let a = let p : tie.Start Inv-loop μ-loop = search in p .args in
     sym (any-end (a .flags .now) (a .listed .now) (l .at) (omega arith)) ∙ l .inv .1
 
 pub any-active-spec : {M : Type 1} → statement M

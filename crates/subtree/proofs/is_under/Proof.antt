@@ -2,7 +2,7 @@
 use borrow.Author.Needs.{needs}
 use native.Mathlib.Omega.{arith}
 use mathlib.Core.Path.{_≡_, sym, _∙_}
-use mathlib.Core.Bool.{true, false}
+use mathlib.Core.Bool.{true}
 use borrow.Author.Tests.{not-true, not-false}
 use lib.Dec.{eqb}
 use Rattle.rules.specs.Records.{slotsOf, occupied}
@@ -17,9 +17,9 @@ is-occupied-requires c κs = tt
 returns : tie.Need-returns
 unfolding inSubtree
 returns c r l =
-    let a = c .before .before .before .before .before .args in
-    let o : occupied (a .sequences .now) (a .slot .0) ≡ false = sym (c .before .is-occupied .ensures) ∙ not-true (c .before .is-occupied .result) (c .if1 .taken) in
-    (rw o, r)
+    let is-occupied = let p : tie.After-is-occupied = search in p .is-occupied in
+    let a = let p : tie.Start = search in p .args in
+    (rw (← is-occupied .ensures, not-true (is-occupied .result) (c .if1 .taken)), r)
 
 told-at-once-requires : tie.Need-told-at-once-requires
 told-at-once-requires c κs = tt
@@ -33,15 +33,20 @@ same-length c = search needs
 returns-2 : tie.Need-returns-2
 unfolding inSubtree slotsOf
 returns-2 c r l =
-    let t = c .before .before .before .before .before .told-at-once in
-    let b = c .before .before .before .before .before .before .before in
-    let a = b .before .before .before .before .before .args in
-    let small = small-parents (a .parents .now) (λ i. omega (arith, b .before .before .before .before .shared-slice-known .given i)) in
-    let o : occupied (a .sequences .now) (a .slot .0) ≡ true = sym (b .before .is-occupied .ensures) ∙ not-false (b .before .is-occupied .result) (b .if1 .left) in
+    let shared-slice-known = let p : tie.After-shared-slice-known = search in p .shared-slice-known in
+    let is-occupied = let p : tie.After-is-occupied = search in p .is-occupied in
+    let if1 = let p : tie.Else1 = search in p .if1 in
+    let if2 = let p : tie.Then2 = search in p .if2 in
+    let put-byte = let p : tie.After-put-byte = search in p .put-byte in
+    let t = let p : tie.After-told-at-once = search in p .told-at-once in
+    let a = let p : tie.Start = search in p .args in
+    let small = small-parents (a .parents .now) (λ i. omega (arith, shared-slice-known .given i)) in
+    let o : occupied (a .sequences .now) (a .slot .0) ≡ true = sym (is-occupied .ensures) ∙ not-false (is-occupied .result) (if1 .left) in
     let e : reaches (a .parents .now) (a .sequences .now) (a .root .0) (slotsOf (a .sequences .now)) (a .slot .0) ≡ eqb (t .result) 1 =
-    rw (t .ensures) (at-once-told (a .parents .now) (a .sequences .now) (a .root .0) (a .known .now) small r (a .slot .0) (omega arith) (omega arith) o
-    (λ q. c .before .before .before .before .if2 .taken (t .ensures ∙ q))) in
-    (rw o (sym e), rw (c .before .before .put-byte .ensures) (remembered _ _ _ (a .known .now) (a .slot .0) _ r e))
+    rw (t .ensures) (at-once-told (a .parents .now) (a .sequences .now) (a .root .0) (a .known .now) small r (a .slot .0) (omega arith)
+    (omega arith) o
+    (λ q. if2 .taken (t .ensures ∙ q))) in
+    (rw o (sym e), rw (put-byte .ensures) (remembered _ _ _ (a .known .now) (a .slot .0) _ r e))
 
 verdict-requires : tie.Need-verdict-requires
 verdict-requires c κs = tt
@@ -55,11 +60,13 @@ same-length-2 c = search needs
 returns-3 : tie.Need-returns-3
 unfolding inSubtree
 returns-3 c r l =
-    let b = c .before .before .before .before .before .before .before .before .before in
-    let a = b .before .before .before .before .before .args in
-    let o : occupied (a .sequences .now) (a .slot .0) ≡ true = sym (b .before .is-occupied .ensures) ∙ not-false (b .before .is-occupied .result) (b .if1 .left) in
-    let e = c .before .before .before .before .verdict .ensures r l in
-    (rw o (sym e), c .before .before .remember .ensures r l e)
+    let is-occupied = let p : tie.After-is-occupied = search in p .is-occupied in
+    let if1 = let p : tie.Else1 = search in p .if1 in
+    let verdict = let p : tie.After-verdict = search in p .verdict in
+    let remember = let p : tie.After-remember = search in p .remember in
+    let a = let p : tie.Start = search in p .args in
+    let e = verdict .ensures r l in
+    (rw (← is-occupied .ensures, not-false (is-occupied .result) (if1 .left)) (sym e), remember .ensures r l e)
 
 pub is-under-spec : {M : Type 1} → statement M
 is-under-spec =

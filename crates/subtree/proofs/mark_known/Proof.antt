@@ -21,7 +21,8 @@ Inv-loop parents sequences root known₀ out₀ n count₀ i₀ known out count 
     (i ≤ n) × ((count ≤ i) × ((length known ≡ length known₀) × ((length out ≡ length out₀)
     × (Right parents sequences (root .0) known₀
     → Right parents sequences (root .0) known
-    × ((count ≡ length (allBelow (inSubtree parents sequences (root .0)) i)) × (out ≡ sets out₀ 0 (allBelow (inSubtree parents sequences (root .0)) i)))))))
+    × ((count ≡ length (allBelow (inSubtree parents sequences (root .0)) i)) ×
+    (out ≡ sets out₀ 0 (allBelow (inSubtree parents sequences (root .0)) i)))))))
 
 abbrev μ-loop : tie.MeasureT-loop
 μ-loop parents sequences root known₀ out₀ n count₀ i₀ known out count i = n - i
@@ -49,11 +50,12 @@ loop-less c = omega arith
 
 loop-again : tie.Need-loop-again Inv-loop μ-loop
 loop-again c =
-    let l = c .before .before .before .before .before .before .loop in
-    let a = c .before .before .before .before .before .before .before .before .before .before .before .before .args in
-    let u = c .before .before .before .is-under in
+    let slots = let p : tie.After-slots Inv-loop μ-loop = search in p .slots in
+    let l = let p : tie.At-loop Inv-loop μ-loop = search in p .loop in
+    let a = let p : tie.Start Inv-loop μ-loop = search in p .args in
+    let u = let p : tie.After-is-under Inv-loop μ-loop = search in p .is-under in
     let test = inSubtree (a .parents .now) (a .sequences .now) (a .root .0) in
-    let h : l .i < slotsOf (a .sequences .now) = omega (arith, c .before .before .before .before .before .before .before .slots .ensures) in
+    let h : l .i < slotsOf (a .sequences .now) = omega (arith, slots .ensures) in
     ⊎-elim
     (λ w. (
       omega arith,
@@ -98,10 +100,10 @@ loop-again c =
     (c .if1 .came)
 
 same-length : tie.Need-same-length Inv-loop μ-loop
-same-length c = c .before .loop .inv .1 .1 .0
+same-length c = omega arith
 
 same-length-2 : tie.Need-same-length-2 Inv-loop μ-loop
-same-length-2 c = c .before .loop .inv .1 .1 .1 .0
+same-length-2 c = omega arith
 
 returns : tie.Need-returns Inv-loop μ-loop
 unfolding markSubtree

@@ -6,7 +6,7 @@ use mathlib.Core.Path.{_≡_, refl, sym, _∙_}
 use Rattle.rules.specs.Records.{NONE, slotsOf}
 use Rattle.rules.specs.BlockTable.{reaches}
 use Rattle.rules.proofs.Walks.{reaches-spent}
-use Rattle.subtree.specs.Known.{above, Right}
+use Rattle.subtree.specs.Known.{Right}
 use Rattle.subtree.proofs.Known.{small-parents, try-above, same-above, end-told}
 use Rattle.subtree.proofs.verdict.Statement.{statement}
 use Rattle.subtree.proofs.verdict.Tie as tie
@@ -16,7 +16,8 @@ Inv-loop parents sequences root known n current₀ tries₀ current tries =
     (tries ≤ n)
     × ((reaches parents sequences (root .0) n (current₀ .0) ≡ reaches parents sequences (root .0) (n - tries) (current .0))
     × (Right parents sequences (root .0) known → (current₀ .0) < slotsOf sequences
-    → (current .0 < NONE) × (reaches parents sequences (root .0) (slotsOf sequences) (current₀ .0) ≡ reaches parents sequences (root .0) (slotsOf sequences) (current .0))))
+    → (current .0 < NONE) × (reaches parents sequences (root .0) (slotsOf sequences) (current₀ .0)
+    ≡ reaches parents sequences (root .0) (slotsOf sequences) (current .0))))
 
 abbrev μ-loop : tie.MeasureT-loop
 μ-loop parents sequences root known n current₀ tries₀ current tries = n - tries
@@ -36,11 +37,15 @@ told-at-requires c κs = tt
 
 returns : tie.Need-returns Inv-loop μ-loop
 returns c r l =
-    let a = c .before .before .before .before .before .before .before .before .before .before .before .args in
-    let at = c .before .before .before .before .before .before .loop .current .0 in
-    let small = small-parents (a .parents .now) (λ i. omega (arith, c .before .before .before .before .before .before .before .before .before .before .shared-slice-known .given i)) in
-    c .before .before .before .before .before .before .loop .inv .1 .1 r l .1
-    ∙ end-told (a .parents .now) (a .sequences .now) (a .root .0) (a .known .now) small r at (omega arith) (sym (c .before .before .before .before .above .ensures) ∙ c .before .if1 .taken)
+    let shared-slice-known = let p : tie.After-shared-slice-known Inv-loop μ-loop = search in p .shared-slice-known in
+    let loop = let p : tie.At-loop Inv-loop μ-loop = search in p .loop in
+    let above-call = let p : tie.After-above Inv-loop μ-loop = search in p .above in
+    let if1 = let p : tie.Then1 Inv-loop μ-loop = search in p .if1 in
+    let a = let p : tie.Start Inv-loop μ-loop = search in p .args in
+    let at = loop .current .0 in
+    let small = small-parents (a .parents .now) (λ i. omega (arith, shared-slice-known .given i)) in
+    loop .inv .1 .1 r l .1
+    ∙ end-told (a .parents .now) (a .sequences .now) (a .root .0) (a .known .now) small r at (omega arith) (sym (above-call .ensures) ∙ if1 .taken)
     ∙ rw (c .told-at .ensures)
 
 add-tries : tie.Need-add-tries Inv-loop μ-loop
@@ -51,19 +56,25 @@ loop-less c = omega arith
 
 loop-again : tie.Need-loop-again Inv-loop μ-loop
 loop-again c =
-    let a = c .before .before .before .before .before .before .before .before .before .before .args in
-    let n = c .before .before .before .before .before .before .slots .result in
-    let l = c .before .before .before .before .before .loop in
-    let up = c .before .before .before .above .ensures in
+    let shared-slice-known = let p : tie.After-shared-slice-known Inv-loop μ-loop = search in p .shared-slice-known in
+    let slots = let p : tie.After-slots Inv-loop μ-loop = search in p .slots in
+    let above-call = let p : tie.After-above Inv-loop μ-loop = search in p .above in
+    let a = let p : tie.Start Inv-loop μ-loop = search in p .args in
+    let n = slots .result in
+    let l = let p : tie.At-loop Inv-loop μ-loop = search in p .loop in
+    let up = above-call .ensures in
     let k : ℕ = n - (l .tries + 1) in
     let e : n - l .tries ≡ suc k = omega arith in
-    let small = small-parents (a .parents .now) (λ i. omega (arith, c .before .before .before .before .before .before .before .before .before .shared-slice-known .given i)) in (
+    let small = small-parents (a .parents .now) (λ i. omega (arith, shared-slice-known .given i)) in (
       omega arith,
       (
-        l .inv .1 .0 ∙ rw (e, up) (try-above (a .parents .now) (a .sequences .now) (a .root .0) (a .known .now) k (l .current .0) (λ q. c .if1 .left (up ∙ q))),
+        l .inv .1 .0 ∙ rw (e, up)
+            (try-above (a .parents .now) (a .sequences .now) (a .root .0) (a .known .now) k (l .current .0) (λ q. c .if1 .left (up ∙ q))),
         λ r h. (
           omega arith,
-          l .inv .1 .1 r h .1 ∙ rw up (same-above (a .parents .now) (a .sequences .now) (a .root .0) (a .known .now) small r (l .current .0) (l .inv .1 .1 r h .0) (λ q. c .if1 .left (up ∙ q))),
+          l .inv .1 .1 r h .1 ∙ rw up
+              (same-above (a .parents .now) (a .sequences .now) (a .root .0) (a .known .now) small r (l .current .0) (l .inv .1 .1 r h .0)
+              (λ q. c .if1 .left (up ∙ q))),
         ),
       ),
     )

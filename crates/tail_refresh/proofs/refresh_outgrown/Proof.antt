@@ -1,8 +1,8 @@
 -- By whether its tail has got a parent.
-use mathlib.Core.Path.{_≡_, refl, sym, _∙_}
-use mathlib.Core.Bool.{true, false}
-use Rattle.rules.specs.Records.{blocksOf, headsOf}
-use Rattle.rules.specs.Admission.{outgrown, refreshOutgrown}
+use native.Mathlib.Omega.{arith}
+use mathlib.Core.Path.{refl, sym, _∙_}
+use Rattle.rules.proofs.Places.{the}
+use Rattle.tail_refresh.proofs.Outgrown.{refreshed, left-alone}
 use Rattle.tail_refresh.proofs.refresh_outgrown.Statement.{statement}
 use Rattle.tail_refresh.proofs.refresh_outgrown.Tie as tie
 
@@ -16,22 +16,23 @@ refresh-head-requires : tie.Need-refresh-head-requires
 refresh-head-requires c κs = tt
 
 same-length : tie.Need-same-length
-same-length c = c .before .before .before .before .before .before .before .before .refresh-head .kept .1 .1 .1 .1 .0
+same-length c = let r = the tie.After-refresh-head (search) .refresh-head in omega (arith, r .kept)
 
 same-length-2 : tie.Need-same-length-2
-same-length-2 c = c .before .before .before .before .before .before .before .before .refresh-head .kept .1 .1 .1 .1 .1 .0
+same-length-2 c = let r = the tie.After-refresh-head (search) .refresh-head in omega (arith, r .kept)
 
 same-length-3 : tie.Need-same-length-3
-same-length-3 c = c .before .before .before .before .before .before .before .before .refresh-head .kept .1 .1 .1 .1 .1 .1 .0
+same-length-3 c = let r = the tie.After-refresh-head (search) .refresh-head in omega (arith, r .kept)
 
 same-length-4 : tie.Need-same-length-4
-same-length-4 c = c .before .before .before .before .before .before .before .before .refresh-head .kept .1 .1 .1 .1 .1 .1 .1 .0
+same-length-4 c = let r = the tie.After-refresh-head (search) .refresh-head in omega (arith, r .kept)
 
 returns : tie.Need-returns
-unfolding refreshOutgrown
 returns c =
-    let e : outgrown (blocksOf (c .before .before .before .before .before .before .before .before .before .before .before .before .before .before .before .before .before .before .before .before .before .before .before .before .before .before .before .before .before .before .before .args .hashes .now) (c .before .before .before .before .before .before .before .before .before .before .before .before .before .before .before .before .before .before .before .before .before .before .before .before .before .before .before .before .before .before .before .args .parents .now) (c .before .before .before .before .before .before .before .before .before .before .before .before .before .before .before .before .before .before .before .before .before .before .before .before .before .before .before .before .before .before .before .args .sequences .now) (c .before .before .before .before .before .before .before .before .before .before .before .before .before .before .before .before .before .before .before .before .before .before .before .before .before .before .before .before .before .before .before .args .counts .now) (c .before .before .before .before .before .before .before .before .before .before .before .before .before .before .before .before .before .before .before .before .before .before .before .before .before .before .before .before .before .before .before .args .flags .now)) (headsOf (c .before .before .before .before .before .before .before .before .before .before .before .before .before .before .before .before .before .before .before .before .before .before .before .before .before .before .before .before .before .before .before .args .tips .now) (c .before .before .before .before .before .before .before .before .before .before .before .before .before .before .before .before .before .before .before .before .before .before .before .before .before .before .before .before .before .before .before .args .tails .now) (c .before .before .before .before .before .before .before .before .before .before .before .before .before .before .before .before .before .before .before .before .before .before .before .before .before .before .before .before .before .before .before .args .missing .now) (c .before .before .before .before .before .before .before .before .before .before .before .before .before .before .before .before .before .before .before .before .before .before .before .before .before .before .before .before .before .before .before .args .requested .now) (c .before .before .before .before .before .before .before .before .before .before .before .before .before .before .before .before .before .before .before .before .before .before .before .before .before .before .before .before .before .before .before .args .arrivals .now) (c .before .before .before .before .before .before .before .before .before .before .before .before .before .before .before .before .before .before .before .before .before .before .before .before .before .before .before .before .before .before .before .args .connected .now)) (c .before .before .before .before .before .before .before .before .before .before .before .before .before .before .before .before .before .before .before .before .before .before .before .before .before .before .before .before .before .before .before .args .head .0) ≡ true = sym (c .before .before .before .before .before .before .before .before .before .before .before .before .before .before .before .has-outgrown .ensures) ∙ c .before .before .before .before .before .before .before .before .before .before .before .before .before .before .if1 .taken in
-    rw (e, ← c .before .before .before .before .before .before .before .before .before .before .before .before .before .word-at .ensures, ← c .before .before .before .before .before .before .before .before .refresh-head .ensures)
+    let r = the tie.After-refresh-head (search) .refresh-head in
+    let w = the tie.After-word-at (search) in
+    let b = w .before in
+    refreshed _ _ _ _ _ (sym (b .before .has-outgrown .ensures) ∙ b .if1 .taken) (w .word-at .ensures) (r .ensures)
 
 same-length-5 : tie.Need-same-length-5
 same-length-5 c = refl
@@ -39,17 +40,8 @@ same-length-5 c = refl
 same-length-6 : tie.Need-same-length-6
 same-length-6 c = refl
 
-same-length-7 : tie.Need-same-length-7
-same-length-7 c = refl
-
-same-length-8 : tie.Need-same-length-8
-same-length-8 c = refl
-
 returns-2 : tie.Need-returns-2
-unfolding refreshOutgrown
-returns-2 c =
-    let e : outgrown (blocksOf (c .before .before .before .before .before .before .before .before .before .before .before .before .before .before .before .before .before .args .hashes .now) (c .before .before .before .before .before .before .before .before .before .before .before .before .before .before .before .before .before .args .parents .now) (c .before .before .before .before .before .before .before .before .before .before .before .before .before .before .before .before .before .args .sequences .now) (c .before .before .before .before .before .before .before .before .before .before .before .before .before .before .before .before .before .args .counts .now) (c .before .before .before .before .before .before .before .before .before .before .before .before .before .before .before .before .before .args .flags .now)) (headsOf (c .before .before .before .before .before .before .before .before .before .before .before .before .before .before .before .before .before .args .tips .now) (c .before .before .before .before .before .before .before .before .before .before .before .before .before .before .before .before .before .args .tails .now) (c .before .before .before .before .before .before .before .before .before .before .before .before .before .before .before .before .before .args .missing .now) (c .before .before .before .before .before .before .before .before .before .before .before .before .before .before .before .before .before .args .requested .now) (c .before .before .before .before .before .before .before .before .before .before .before .before .before .before .before .before .before .args .arrivals .now) (c .before .before .before .before .before .before .before .before .before .before .before .before .before .before .before .before .before .args .connected .now)) (c .before .before .before .before .before .before .before .before .before .before .before .before .before .before .before .before .before .args .head .0) ≡ false = sym (c .before .has-outgrown .ensures) ∙ c .if1 .left in
-    rw e
+returns-2 c = let b = the tie.Else1 (search) in left-alone _ _ _ (sym (b .before .has-outgrown .ensures) ∙ b .if1 .left)
 
 pub refresh-outgrown-spec : {M : Type 1} → statement M
 refresh-outgrown-spec =
@@ -65,6 +57,4 @@ refresh-outgrown-spec =
     returns
     same-length-5
     same-length-6
-    same-length-7
-    same-length-8
     returns-2)

@@ -21,8 +21,11 @@ is-occupied-requires c κs = tt
 returns : tie.Need-returns
 unfolding askAt
 returns c =
-    let a = c .before .before .before .before .before .args in
-    let e : occupied (a .sequences .now) (tailAt (a .tails .now) (a .head .0)) ≡ false = rw (← c .before .before .word-at .ensures) (sym (c .before .is-occupied .ensures) ∙ not-true (c .before .is-occupied .result) (c .if1 .taken)) in
+    let a = let p : tie.Start = search in p .args in
+    let word-at = let p : tie.After-word-at = search in p .word-at in
+    let is-occupied = let p : tie.After-is-occupied = search in p .is-occupied in
+    let e : occupied (a .sequences .now) (tailAt (a .tails .now) (a .head .0)) ≡ false =
+    rw (← word-at .ensures) (sym (is-occupied .ensures) ∙ not-true (is-occupied .result) (c .if1 .taken)) in
     rw e
 
 word-at-requires-2 : tie.Need-word-at-requires-2
@@ -34,9 +37,15 @@ claimed-requires c κs = tt
 returns-2 : tie.Need-returns-2
 unfolding askAt
 returns-2 c =
-    let a = c .before .before .before .before .before .before .before .args in
-    let e : occupied (a .sequences .now) (tailAt (a .tails .now) (a .head .0)) ≡ true = rw (← c .before .before .before .before .word-at .ensures) (sym (c .before .before .before .is-occupied .ensures) ∙ not-false (c .before .before .before .is-occupied .result) (c .before .before .if1 .left)) in
-    let s : c .claimed .result .0 ≡ claimed (sequenceAt (a .sequences .now) (tailAt (a .tails .now) (a .head .0))) = c .claimed .ensures ∙ rw (c .before .word-at2 .ensures, c .before .before .before .before .word-at .ensures) in
+    let a = let p : tie.Start = search in p .args in
+    let word-at = let p : tie.After-word-at = search in p .word-at in
+    let is-occupied = let p : tie.After-is-occupied = search in p .is-occupied in
+    let if1 = let p : tie.Else1 = search in p .if1 in
+    let word-at2 = let p : tie.After-word-at2 = search in p .word-at2 in
+    let e : occupied (a .sequences .now) (tailAt (a .tails .now) (a .head .0)) ≡ true =
+    rw (← word-at .ensures) (sym (is-occupied .ensures) ∙ not-false (is-occupied .result) (if1 .left)) in
+    let s : c .claimed .result .0 ≡ claimed (sequenceAt (a .sequences .now) (tailAt (a .tails .now) (a .head .0))) =
+    c .claimed .ensures ∙ rw (word-at2 .ensures, word-at .ensures) in
     rw e (ap (asking (a .head .0)) s)
 
 pub ask-at-spec : {M : Type 1} → statement M

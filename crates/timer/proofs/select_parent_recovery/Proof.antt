@@ -27,7 +27,9 @@ ask-at-requires c κs = tt
 returns-2 : tie.Need-returns-2
 unfolding recovery
 returns-2 c =
-    let f = sym (c .before .before .before .before .chosen .ensures) ∙ ap headFound (c .before .before .found .given .1) in
+    let chosen = let p : tie.After-chosen = search in p .chosen in
+    let found = let p : tie.After-found = search in p .found in
+    let f = sym (chosen .ensures) ∙ ap headFound (found .given .1) in
     rw (f, recovery) (c .ask-at .ensures)
 
 pub select-parent-recovery-spec : {M : Type 1} → statement M

@@ -1,13 +1,10 @@
--- By what is found.
-use mathlib.Core.Path.{_≡_, sym, ap, _∙_}
-use mathlib.Core.Bool.{true, false}
-use borrow.Author.Tests.{not-true, not-false}
-use Prim.Native.Nat.{ℕ}
-use Rattle.rules.specs.Records.{tablesOf}
-use Rattle.rules.specs.Timer.{deadline}
-use Rattle.rules.specs.Answers.{deadlineGot}
-use Rattle.rules.specs.Calls.{shaped, earliestDeadline}
+-- The least due time.
+use mathlib.Core.Path.{sym, ap, _∙_}
 use borrow.Author.Needs.{needs}
+use borrow.Author.Tests.{not-true, not-false}
+use Rattle.rules.specs.Answers.{deadlineGot}
+use Rattle.rules.proofs.Places.{the}
+use Rattle.timer_call.proofs.Asked.{misshapen-deadline, never, due-at}
 use Rattle.timer_call.proofs.earliest_deadline.Statement.{statement}
 use Rattle.timer_call.proofs.earliest_deadline.Tie as tie
 
@@ -15,11 +12,10 @@ is-shaped-requires : tie.Need-is-shaped-requires
 is-shaped-requires c κs = tt
 
 returns : tie.Need-returns
-unfolding earliestDeadline
 returns c =
-    let p = c .before .before .before .before .before .before .before .before .before .before .before .before .before .args in
-    let e : shaped (tablesOf (p .hashes .now) (p .parents .now) (p .sequences .now) (p .counts .now) (p .flags .now) (p .tips .now) (p .tails .now) (p .missing .now) (p .requested .now) (p .arrivals .now) (p .connected .now)) ≡ false = sym (c .before .is-shaped .ensures) ∙ not-true (c .before .is-shaped .result) (c .if1 .taken) in
-    λ a. rw e
+    let b = the tie.Then1 (search) in
+    let s = b .before .is-shaped in
+    λ active. misshapen-deadline _ _ (sym (s .ensures) ∙ not-true (s .result) (b .if1 .taken))
 
 ticks-requires : tie.Need-ticks-requires
 ticks-requires c κs = tt
@@ -34,20 +30,22 @@ enum-told : tie.Need-enum-told
 enum-told c = search needs
 
 returns-2 : tie.Need-returns-2
-unfolding earliestDeadline
 returns-2 c =
-    let p = c .before .before .before .before .before .before .before .before .before .before .before .before .before .before .before .before .before .before .args in
-    let e : shaped (tablesOf (p .hashes .now) (p .parents .now) (p .sequences .now) (p .counts .now) (p .flags .now) (p .tips .now) (p .tails .now) (p .missing .now) (p .requested .now) (p .arrivals .now) (p .connected .now)) ≡ true = sym (c .before .before .before .before .before .before .is-shaped .ensures) ∙ not-false (c .before .before .before .before .before .before .is-shaped .result) (c .before .before .before .before .before .if1 .left) in
-    let f = ap (λ (x : ℕ). deadline (p .tips .now) (p .requested .now) (p .connected .now) x) (sym (c .before .before .before .before .ticks .ensures)) ∙ sym (c .before .before .before .earliest-recovery-deadline .ensures) ∙ ap deadlineGot (c .before .time .given .1) in
-    λ a. rw (e, f, earliestDeadline)
+    let w = the tie.After-time (search) in
+    let p = the tie.After-earliest-recovery-deadline (search) in
+    let k = the tie.After-ticks (search) in
+    let e = the tie.Else1 (search) in
+    let s = e .before .is-shaped in
+    λ active. due-at _ _ (sym (s .ensures) ∙ not-false (s .result) (e .if1 .left)) _ (k .ticks .ensures) _ (sym (p .earliest-recovery-deadline .ensures) ∙ ap deadlineGot (w .time .given .1))
 
 returns-3 : tie.Need-returns-3
-unfolding earliestDeadline
 returns-3 c =
-    let p = c .before .before .before .before .before .before .before .before .before .before .before .before .before .before .before .before .before .args in
-    let e : shaped (tablesOf (p .hashes .now) (p .parents .now) (p .sequences .now) (p .counts .now) (p .flags .now) (p .tips .now) (p .tails .now) (p .missing .now) (p .requested .now) (p .arrivals .now) (p .connected .now)) ≡ true = sym (c .before .before .before .before .before .is-shaped .ensures) ∙ not-false (c .before .before .before .before .before .is-shaped .result) (c .before .before .before .before .if1 .left) in
-    let f = ap (λ (x : ℕ). deadline (p .tips .now) (p .requested .now) (p .connected .now) x) (sym (c .before .before .before .ticks .ensures)) ∙ sym (c .before .before .earliest-recovery-deadline .ensures) ∙ ap deadlineGot (c .enum-told .given .1) in
-    λ a. rw (e, f, earliestDeadline)
+    let w = the tie.After-enum-told (search) in
+    let p = the tie.After-earliest-recovery-deadline (search) in
+    let k = the tie.After-ticks (search) in
+    let e = the tie.Else1 (search) in
+    let s = e .before .is-shaped in
+    λ active. never _ _ (sym (s .ensures) ∙ not-false (s .result) (e .if1 .left)) _ (k .ticks .ensures) (sym (p .earliest-recovery-deadline .ensures) ∙ ap deadlineGot (w .enum-told .given .1))
 
 pub earliest-deadline-spec : {M : Type 1} → statement M
 earliest-deadline-spec =

@@ -1,13 +1,11 @@
--- By what is chosen.
-use mathlib.Core.Path.{_≡_, refl, sym, ap, _∙_}
-use mathlib.Core.Bool.{true, false}
-use borrow.Author.Tests.{not-true, not-false}
-use Rattle.rules.specs.Records.{tablesOf}
-use Rattle.rules.specs.Timer.{recovery}
-use Rattle.rules.specs.Answers.{askChosen}
-use Rattle.rules.specs.Calls.{shaped, asked, timer}
-use Prim.Native.Nat.{ℕ}
+-- The choice, and what is asked.
+use mathlib.Core.Path.{refl, sym, ap, _∙_}
 use borrow.Author.Needs.{needs}
+use borrow.Author.Tests.{not-true, not-false}
+use native.Mathlib.Omega.{arith}
+use Rattle.rules.specs.Answers.{askChosen}
+use Rattle.rules.proofs.Places.{the}
+use Rattle.timer_call.proofs.Asked.{misshapen, none-due, asks}
 use Rattle.timer_call.proofs.timer.Statement.{statement}
 use Rattle.timer_call.proofs.timer.Tie as tie
 
@@ -21,11 +19,11 @@ same-length : tie.Need-same-length
 same-length c = refl
 
 returns : tie.Need-returns
-unfolding timer
 returns c =
-    let p = c .before .before .before .before .before .before .before .before .before .before .before .before .before .before .before .args in
-    let e : shaped (tablesOf (p .hashes .now) (p .parents .now) (p .sequences .now) (p .counts .now) (p .flags .now) (p .tips .now) (p .tails .now) (p .missing .now) (p .requested .now) (p .arrivals .now) (p .connected .now)) ≡ false = sym (c .before .before .is-shaped .ensures) ∙ not-true (c .before .before .is-shaped .result) (c .before .if1 .taken) in
-    λ a. (rw (c .nothing .ensures .0, e), (rw (c .nothing .ensures .1, e), rw e))
+    let n = the tie.After-nothing (search) in
+    let b = the tie.Then1 (search) in
+    let s = b .before .is-shaped in
+    misshapen _ _ _ _ (n .nothing .ensures) (sym (s .ensures) ∙ not-true (s .result) (b .if1 .taken))
 
 ticks-requires : tie.Need-ticks-requires
 ticks-requires c κs = tt
@@ -52,23 +50,28 @@ same-length-2 : tie.Need-same-length-2
 same-length-2 c = refl
 
 returns-2 : tie.Need-returns-2
-unfolding timer asked
 returns-2 c =
-    let p = c .before .before .before .before .before .before .before .before .before .before .before .before .before .before .before .before .before .before .before .before .args in
-    let e : shaped (tablesOf (p .hashes .now) (p .parents .now) (p .sequences .now) (p .counts .now) (p .flags .now) (p .tips .now) (p .tails .now) (p .missing .now) (p .requested .now) (p .arrivals .now) (p .connected .now)) ≡ true = sym (c .before .before .before .before .before .before .before .is-shaped .ensures) ∙ not-false (c .before .before .before .before .before .before .before .is-shaped .result) (c .before .before .before .before .before .before .if1 .left) in
-    let f = ap (λ (x : ℕ). recovery (p .hashes .now) (p .sequences .now) (p .tips .now) (p .tails .now) (p .requested .now) (p .connected .now) (p .clock) x) (sym (c .before .before .before .before .ticks .ensures)) ∙ sym (c .before .before .before .select-parent-recovery .ensures) ∙ ap askChosen (c .before .enum-told .given .1) in
-    λ a. (rw (c .nothing2 .ensures .0, e, f), (rw (c .nothing2 .ensures .1, e, f), rw (e, f)))
+    let n = the tie.After-nothing2 (search) in
+    let w = the tie.After-enum-told (search) in
+    let p = the tie.After-select-parent-recovery (search) in
+    let k = the tie.After-ticks (search) in
+    let e = the tie.Else1 (search) in
+    let s = e .before .is-shaped in
+    none-due _ _ _ (sym (s .ensures) ∙ not-false (s .result) (e .if1 .left)) _ (k .ticks .ensures) _ (n .nothing2 .ensures) (sym (p .select-parent-recovery .ensures) ∙ ap askChosen (w .enum-told .given .1))
 
 same-length-3 : tie.Need-same-length-3
-same-length-3 c = c .before .before .mark-requested .kept .0
+same-length-3 c = let m = the tie.After-mark-requested (search) .mark-requested in omega (arith, m .kept)
 
 returns-3 : tie.Need-returns-3
-unfolding timer asked
 returns-3 c =
-    let p = c .before .before .before .before .before .before .before .before .before .before .before .before .before .before .before .before .before .before .before .before .before .before .before .before .before .args in
-    let e : shaped (tablesOf (p .hashes .now) (p .parents .now) (p .sequences .now) (p .counts .now) (p .flags .now) (p .tips .now) (p .tails .now) (p .missing .now) (p .requested .now) (p .arrivals .now) (p .connected .now)) ≡ true = sym (c .before .before .before .before .before .before .before .before .before .before .before .before .is-shaped .ensures) ∙ not-false (c .before .before .before .before .before .before .before .before .before .before .before .before .is-shaped .result) (c .before .before .before .before .before .before .before .before .before .before .before .if1 .left) in
-    let f = ap (λ (x : ℕ). recovery (p .hashes .now) (p .sequences .now) (p .tips .now) (p .tails .now) (p .requested .now) (p .connected .now) (p .clock) x) (sym (c .before .before .before .before .before .before .before .before .before .ticks .ensures)) ∙ sym (c .before .before .before .before .before .before .before .before .select-parent-recovery .ensures) ∙ ap askChosen (c .before .before .before .before .before .before .head .given .1) in
-    λ a. (rw (e, f, c .before .before .before .before .hash-at .ensures), (rw (e, f, c .before .before .before .before .hash-at .ensures), rw (e, f, c .before .before .mark-requested .ensures)))
+    let m = the tie.After-mark-requested (search) in
+    let h = the tie.After-hash-at (search) in
+    let w = the tie.After-head (search) in
+    let p = the tie.After-select-parent-recovery (search) in
+    let k = the tie.After-ticks (search) in
+    let e = the tie.Else1 (search) in
+    let s = e .before .is-shaped in
+    asks _ _ _ (sym (s .ensures) ∙ not-false (s .result) (e .if1 .left)) _ (k .ticks .ensures) _ _ _ _ (sym (p .select-parent-recovery .ensures) ∙ ap askChosen (w .head .given .1)) (h .hash-at .ensures) (m .mark-requested .ensures)
 
 pub timer-spec : {M : Type 1} → statement M
 timer-spec =

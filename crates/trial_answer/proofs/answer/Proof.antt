@@ -1,7 +1,8 @@
 -- By the line.
 use native.Mathlib.Omega.{arith}
 use borrow.Author.Needs.{needs}
-use Rattle.trial_calls.proofs.Telling.{the, tells-of}
+use Rattle.rules.proofs.Places.{the}
+use Rattle.trial_calls.proofs.Telling.{tells-of}
 use Rattle.trial_answer.proofs.answer.Statement.{statement}
 use Rattle.trial_answer.proofs.answer.Tie as tie
 

@@ -1,6 +1,7 @@
 -- The call, then its line.
 use borrow.Author.Needs.{needs}
-use Rattle.trial_calls.proofs.Telling.{the, admit-tells}
+use Rattle.rules.proofs.Places.{the}
+use Rattle.trial_calls.proofs.Telling.{admit-tells}
 use Rattle.trial_calls.proofs.tell_admit.Statement.{statement}
 use Rattle.trial_calls.proofs.tell_admit.Tie as tie
 
@@ -60,7 +61,7 @@ returns : tie.Need-returns
 returns c =
     let l = the tie.After-admit-line (search) in
     let d = called l in
-    admit-tells (d .admit .ensures .0) (d .admit .ensures .1) (l .admit-line .ensures)
+    admit-tells (d .admit .ensures .answers) (d .admit .ensures .leaves) (l .admit-line .ensures)
 
 pub tell-admit-spec : {M : Type 1} → statement M
 tell-admit-spec =

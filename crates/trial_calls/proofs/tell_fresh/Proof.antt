@@ -1,6 +1,7 @@
 -- The call, then its line.
 use borrow.Author.Needs.{needs}
-use Rattle.trial_calls.proofs.Telling.{the, fresh-tells}
+use Rattle.rules.proofs.Places.{the}
+use Rattle.trial_calls.proofs.Telling.{fresh-tells}
 use Rattle.trial_calls.proofs.tell_fresh.Statement.{statement}
 use Rattle.trial_calls.proofs.tell_fresh.Tie as tie
 
@@ -61,7 +62,7 @@ returns c =
     let l = the tie.After-fresh-line (search) in
     let k = looked l in
     let d = called k in
-    λ n m. fresh-tells (d .fresh-at .ensures .0) (d .fresh-at .ensures .1 .1) (d .fresh-at .ensures .1 .0) (k .is-done .ensures) (l .fresh-line .ensures)
+    λ n m. fresh-tells (d .fresh-at .ensures .answers) (d .fresh-at .ensures .leaves) (d .fresh-at .ensures .records) (k .is-done .ensures) (l .fresh-line .ensures)
 
 pub tell-fresh-spec : {M : Type 1} → statement M
 tell-fresh-spec =

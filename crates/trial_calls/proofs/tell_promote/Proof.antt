@@ -1,6 +1,7 @@
 -- The call, then its line.
 use borrow.Author.Needs.{needs}
-use Rattle.trial_calls.proofs.Telling.{the, promote-tells}
+use Rattle.rules.proofs.Places.{the}
+use Rattle.trial_calls.proofs.Telling.{promote-tells}
 use Rattle.trial_calls.proofs.tell_promote.Statement.{statement}
 use Rattle.trial_calls.proofs.tell_promote.Tie as tie
 
@@ -36,7 +37,7 @@ returns : tie.Need-returns
 returns c =
     let l = the tie.After-promote-line (search) in
     let d = called l in
-    promote-tells (d .promote-at .ensures .0) (d .promote-at .ensures .1 .1) (d .promote-at .ensures .1 .0) (l .promote-line .ensures)
+    promote-tells (d .promote-at .ensures .answers) (d .promote-at .ensures .leaves) (d .promote-at .ensures .records) (l .promote-line .ensures)
 
 pub tell-promote-spec : {M : Type 1} → statement M
 tell-promote-spec =

@@ -1,6 +1,7 @@
 -- The call, then its line.
 use borrow.Author.Needs.{needs}
-use Rattle.trial_calls.proofs.Telling.{the, remove-tells}
+use Rattle.rules.proofs.Places.{the}
+use Rattle.trial_calls.proofs.Telling.{remove-tells}
 use Rattle.trial_calls.proofs.tell_remove.Statement.{statement}
 use Rattle.trial_calls.proofs.tell_remove.Tie as tie
 
@@ -54,7 +55,7 @@ returns : tie.Need-returns
 returns c =
     let l = the tie.After-remove-line (search) in
     let d = called l in
-    remove-tells (d .remove .ensures _ .0) (d .remove .ensures _ .1) (l .remove-line .ensures)
+    remove-tells (d .remove .ensures _ .answers) (d .remove .ensures _ .leaves) (l .remove-line .ensures)
 
 pub tell-remove-spec : {M : Type 1} → statement M
 tell-remove-spec =

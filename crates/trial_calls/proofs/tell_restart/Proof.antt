@@ -1,6 +1,7 @@
 -- The call, then its line.
 use borrow.Author.Needs.{needs}
-use Rattle.trial_calls.proofs.Telling.{the, restart-tells}
+use Rattle.rules.proofs.Places.{the}
+use Rattle.trial_calls.proofs.Telling.{restart-tells}
 use Rattle.trial_calls.proofs.tell_restart.Statement.{statement}
 use Rattle.trial_calls.proofs.tell_restart.Tie as tie
 
@@ -54,7 +55,7 @@ returns : tie.Need-returns
 returns c =
     let l = the tie.After-restart-line (search) in
     let d = called l in
-    restart-tells (d .restart .ensures .0) (d .restart .ensures .1) (l .restart-line .ensures)
+    restart-tells (d .restart .ensures .answers) (d .restart .ensures .leaves) (l .restart-line .ensures)
 
 pub tell-restart-spec : {M : Type 1} → statement M
 tell-restart-spec =

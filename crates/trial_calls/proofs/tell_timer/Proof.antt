@@ -1,6 +1,7 @@
 -- The call, then its line.
 use borrow.Author.Needs.{needs}
-use Rattle.trial_calls.proofs.Telling.{the, timer-tells}
+use Rattle.rules.proofs.Places.{the}
+use Rattle.trial_calls.proofs.Telling.{timer-tells}
 use Rattle.trial_calls.proofs.tell_timer.Statement.{statement}
 use Rattle.trial_calls.proofs.tell_timer.Tie as tie
 
@@ -24,7 +25,7 @@ returns : tie.Need-returns
 returns c =
     let l = the tie.After-timer-line (search) in
     let d = called l in
-    timer-tells (d .timer .ensures _ .0) (d .timer .ensures _ .1 .1) (l .timer-line .ensures)
+    timer-tells (d .timer .ensures .0 _ .answers) (d .timer .ensures .0 _ .leaves) (l .timer-line .ensures)
 
 pub tell-timer-spec : {M : Type 1} → statement M
 tell-timer-spec =

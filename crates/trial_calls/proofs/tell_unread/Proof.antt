@@ -1,6 +1,7 @@
 -- Its line.
 use borrow.Author.Needs.{needs}
-use Rattle.trial_calls.proofs.Telling.{the, unread-tells}
+use Rattle.rules.proofs.Places.{the}
+use Rattle.trial_calls.proofs.Telling.{unread-tells}
 use Rattle.trial_calls.proofs.tell_unread.Statement.{statement}
 use Rattle.trial_calls.proofs.tell_unread.Tie as tie
 

@@ -2,7 +2,7 @@
 use native.Mathlib.Omega.{arith}
 use borrow.Author.Needs.{needs}
 use lib.ListN.{length-append, length-take, length-drop}
-use Rattle.trial_calls.proofs.Telling.{the}
+use Rattle.rules.proofs.Places.{the}
 use Rattle.trial_fronts.proofs.Lending.{front-length, came, tells-front}
 use Rattle.trial_fronts.proofs.answer_front.Statement.{statement}
 use Rattle.trial_fronts.proofs.answer_front.Tie as tie

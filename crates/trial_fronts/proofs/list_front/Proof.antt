@@ -1,7 +1,7 @@
 -- Each front is what the listing reads.
 use native.Mathlib.Omega.{arith}
 use borrow.Author.Needs.{needs}
-use Rattle.trial_calls.proofs.Telling.{the}
+use Rattle.rules.proofs.Places.{the}
 use Rattle.trial_fronts.proofs.Lending.{front-is, lists-front}
 use Rattle.trial_fronts.proofs.list_front.Statement.{statement}
 use Rattle.trial_fronts.proofs.list_front.Tie as tie

@@ -1,7 +1,7 @@
 -- The last line, then the listing.
 use borrow.Author.Needs.{needs}
 use native.Mathlib.Omega.{arith}
-use Rattle.trial_calls.proofs.Telling.{the}
+use Rattle.rules.proofs.Places.{the}
 use Rattle.trial_session.proofs.Closing.{closes}
 use Rattle.trial_session.proofs.close.Statement.{statement}
 use Rattle.trial_session.proofs.close.Tie as tie

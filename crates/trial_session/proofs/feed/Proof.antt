@@ -1,6 +1,6 @@
 -- What is printed has room.
 use borrow.Author.Needs.{needs}
-use Rattle.trial_calls.proofs.Telling.{the}
+use Rattle.rules.proofs.Places.{the}
 use Rattle.trial_session.proofs.Room.{feeds}
 use Rattle.trial_session.proofs.feed.Statement.{statement}
 use Rattle.trial_session.proofs.feed.Tie as tie

@@ -21,8 +21,11 @@ same-length c = search needs
 
 returns : tie.Need-returns
 returns c =
-    let e = sym (c .before .before .before .before .before .before .before .earliest-recovery-deadline .ensures) ∙ ap deadlineGot (c .before .before .before .before .before .time .given .1) in
-    rw e (refl, c .before .before .put-time .ensures)
+    let earliest-recovery-deadline = let p : tie.After-earliest-recovery-deadline = search in p .earliest-recovery-deadline in
+    let time = let p : tie.After-time = search in p .time in
+    let put-time = let p : tie.After-put-time = search in p .put-time in
+    let e = sym (earliest-recovery-deadline .ensures) ∙ ap deadlineGot (time .given .1) in
+    rw e (refl, put-time .ensures)
 
 returns-2 : tie.Need-returns-2
 returns-2 c =

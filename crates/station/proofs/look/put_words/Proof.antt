@@ -19,7 +19,12 @@ same-length : tie.Need-same-length
 same-length c = search needs
 
 returns : tie.Need-returns
-returns c = c .before .before .put-word4 .ensures ∙ rw (c .before .before .before .before .before .before .put-word3 .ensures, c .before .before .before .before .before .before .before .before .before .before .put-word2 .ensures, c .before .before .before .before .before .before .before .before .before .before .before .before .before .before .put-word .ensures)
+returns c =
+    let put-word = let p : tie.After-put-word = search in p .put-word in
+    let put-word2 = let p : tie.After-put-word2 = search in p .put-word2 in
+    let put-word3 = let p : tie.After-put-word3 = search in p .put-word3 in
+    let put-word4 = let p : tie.After-put-word4 = search in p .put-word4 in
+    put-word4 .ensures ∙ rw (put-word3 .ensures, put-word2 .ensures, put-word .ensures)
 
 pub put-words-spec : {M : Type 1} → statement M
 put-words-spec =

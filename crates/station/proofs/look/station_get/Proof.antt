@@ -30,16 +30,21 @@ same-length-2 c = search needs
 
 returns : tie.Need-returns
 returns c =
-    let a = c .before .before .before .before .before .before .before .before .before .before .before .before .before .before .before .before .before .before .before .args in
+    let a = let p : tie.Start = search in p .args in
+    let get-call = let p : tie.After-get = search in p .get in
+    let if1 = let p : tie.Then1 = search in p .if1 in
+    let put-hash = let p : tie.After-put-hash = search in p .put-hash in
+    let put-words = let p : tie.After-put-words = search in p .put-words in
     let b = blocksOf (a .hashes .now) (a .parents .now) (a .sequences .now) (a .counts .now) (a .flags .now) in
-    let e : some (c .before .before .before .before .before .before .before .before .before .before .before .get .result .block) ≡ get b (a .slot) = block-there _ _ (c .before .before .before .before .before .before .before .before .before .before .before .get .ensures) (c .before .before .before .before .before .before .before .before .before .before .if1 .taken) in
-    rw (← e) (refl, (c .before .before .before .before .before .before .put-hash .ensures, c .before .before .put-words .ensures))
+    let e : some (get-call .result .block) ≡ get b (a .slot) = block-there _ _ (get-call .ensures) (if1 .taken) in
+    rw (← e) (refl, (put-hash .ensures, put-words .ensures))
 
 returns-2 : tie.Need-returns-2
 returns-2 c =
-    let a = c .before .before .before .before .before .before .before .before .before .args in
+    let a = let p : tie.Start = search in p .args in
+    let get-call = let p : tie.After-get = search in p .get in
     let b = blocksOf (a .hashes .now) (a .parents .now) (a .sequences .now) (a .counts .now) (a .flags .now) in
-    let e : none ≡ get b (a .slot) = nothing-there _ _ (c .before .get .ensures) (c .if1 .left) in
+    let e : none ≡ get b (a .slot) = nothing-there _ _ (get-call .ensures) (c .if1 .left) in
     rw (← e) (refl, (refl, refl))
 
 pub station-get-spec : {M : Type 1} → statement M

@@ -1,6 +1,5 @@
-use mathlib.Core.Path.{ap, _∙_}
-use Rattle.call_numbers.specs.Numbers.{answerNumber}
 use borrow.Author.Needs.{needs}
+use Rattle.call_numbers.proofs.Given.{gives-and-sets}
 use Rattle.station.proofs.record.promote_kept.Statement.{statement}
 use Rattle.station.proofs.record.promote_kept.Tie as tie
 
@@ -26,7 +25,7 @@ same-length-5 : tie.Need-same-length-5
 same-length-5 c = search needs
 
 returns : tie.Need-returns
-returns c = (c .outcome-number .ensures ∙ ap answerNumber (c .before .before .before .before .before .before .before .before .before .before .before .promote-at .ensures .0), (c .before .before .before .before .before .before .before .before .before .before .before .promote-at .ensures .1 .0, c .before .before .before .before .before .before .before .before .before .before .before .promote-at .ensures .1 .1))
+returns c = let p : tie.After-promote-at = search in gives-and-sets (c .outcome-number .ensures) (p .promote-at .ensures)
 
 pub promote-kept-spec : {M : Type 1} → statement M
 promote-kept-spec =

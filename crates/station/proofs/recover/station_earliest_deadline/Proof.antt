@@ -1,6 +1,5 @@
-use mathlib.Core.Path.{ap, _∙_}
-use Rattle.call_numbers.specs.Numbers.{answerNumber, timeTo}
 use borrow.Author.Needs.{needs}
+use Rattle.call_numbers.proofs.Given.{waits}
 use Rattle.station.proofs.recover.station_earliest_deadline.Statement.{statement}
 use Rattle.station.proofs.recover.station_earliest_deadline.Tie as tie
 
@@ -17,7 +16,11 @@ same-length : tie.Need-same-length
 same-length c = search needs
 
 returns : tie.Need-returns
-returns c = λ a. rw (← c .before .before .before .before .before .span-from .ensures) ((c .before .before .deadline-number .ensures .0 ∙ ap answerNumber (c .before .before .before .before .earliest-deadline .ensures a), c .before .before .deadline-number .ensures .1 ∙ ap (λ s. timeTo s (c .before .before .before .before .before .before .before .before .before .before .before .before .before .before .before .before .before .before .args .time .now)) (c .before .before .before .before .earliest-deadline .ensures a)))
+returns c =
+    let span-from = let p : tie.After-span-from = search in p .span-from in
+    let deadline = let p : tie.After-earliest-deadline = search in p .earliest-deadline in
+    let told = let p : tie.After-deadline-number = search in p .deadline-number .ensures in
+    λ active. rw (← span-from .ensures) (waits (told .0) (told .1) (deadline .ensures active))
 
 pub station-earliest-deadline-spec : {M : Type 1} → statement M
 station-earliest-deadline-spec =

@@ -1,8 +1,10 @@
-use mathlib.Core.Path.{ap, _∙_}
-use Rattle.call_numbers.specs.Numbers.{answerNumber, claimedTo, wantedTo}
 use borrow.Author.Needs.{needs}
+use Rattle.call_numbers.proofs.Given.{asks}
 use Rattle.station.proofs.recover.station_timer.Statement.{statement}
 use Rattle.station.proofs.recover.station_timer.Tie as tie
+
+abbrev to-start : tie.After-span-from → tie.Start
+to-start c = search
 
 span-from-requires : tie.Need-span-from-requires
 span-from-requires c κs = tt
@@ -23,7 +25,11 @@ same-length-3 : tie.Need-same-length-3
 same-length-3 c = search needs
 
 returns : tie.Need-returns
-returns c = λ a. rw (← c .before .before .before .before .before .before .before .before .before .before .before .span-from .ensures) ((c .before .before .before .before .timed-number .ensures .0 ∙ ap answerNumber (c .before .before .before .before .before .before .before .before .before .before .timer .ensures a .0), (c .before .before .before .before .timed-number .ensures .1 .0 ∙ ap (λ s. claimedTo s (c .before .before .before .before .before .before .before .before .before .before .before .before .before .before .before .before .before .before .before .before .before .before .before .before .before .before .args .claimed .now)) (c .before .before .before .before .before .before .before .before .before .before .timer .ensures a .0), (c .before .before .before .before .timed-number .ensures .1 .1 ∙ ap (λ s. wantedTo s (c .before .before .before .before .before .before .before .before .before .before .before .before .before .before .before .before .before .before .before .before .before .before .before .before .before .before .args .wanted .now)) (c .before .before .before .before .before .before .before .before .before .before .timer .ensures a .0), c .before .before .before .before .before .before .before .before .before .before .timer .ensures a .1 .1))))
+returns c =
+    let span-from = let p : tie.After-span-from = search in p .span-from in
+    let timer = let p : tie.After-timer = search in p .timer in
+    let told = let p : tie.After-timed-number = search in p .timed-number .ensures in
+    λ active. rw (← span-from .ensures) (asks (told .0) (told .1 .0) (told .1 .1) (timer .ensures .0 active))
 
 pub station-timer-spec : {M : Type 1} → statement M
 station-timer-spec =

@@ -30,9 +30,13 @@ enum-told c = search needs
 returns-2 : tie.Need-returns-2
 unfolding hashByte
 returns-2 c =
-    let b = c .before .before .before .before .before .before .args .bytes .now in
-    let h : hexDigit (getD b 0 0) ≡ none = ap hexDigit (sym (c .before .before .before .byte-at .ensures)) ∙ sym (c .before .before .hex-digit .ensures) ∙ ap byteRead (c .enum-told .given .1) in
-    rw (eq-eqb _ 2 (c .before .before .before .before .if1 .left), h)
+    let args = let p : tie.Start = search in p .args in
+    let if1 = let p : tie.Else1 = search in p .if1 in
+    let byte-at = let p : tie.After-byte-at = search in p .byte-at in
+    let hex-digit = let p : tie.After-hex-digit = search in p .hex-digit in
+    let b = args .bytes .now in
+    let h : hexDigit (getD b 0 0) ≡ none = ap hexDigit (sym (byte-at .ensures)) ∙ sym (hex-digit .ensures) ∙ ap byteRead (c .enum-told .given .1) in
+    rw (eq-eqb _ 2 (if1 .left), h)
 
 byte-at-requires-2 : tie.Need-byte-at-requires-2
 byte-at-requires-2 c κs = tt
@@ -49,34 +53,67 @@ enum-told-2 c = search needs
 returns-3 : tie.Need-returns-3
 unfolding hashByte
 returns-3 c =
-    let b = c .before .before .before .before .before .before .before .before .before .before .before .args .bytes .now in
-    let h : hexDigit (getD b 0 0) ≡ some (c .before .before .before .before .before .high .given .0 .0) = ap hexDigit (sym (c .before .before .before .before .before .before .before .before .byte-at .ensures)) ∙ sym (c .before .before .before .before .before .before .before .hex-digit .ensures) ∙ ap byteRead (c .before .before .before .before .before .high .given .1) in
-    let l : hexDigit (getD b 1 0) ≡ none = ap hexDigit (sym (c .before .before .before .byte-at2 .ensures)) ∙ sym (c .before .before .hex-digit2 .ensures) ∙ ap byteRead (c .enum-told2 .given .1) in
-    rw (eq-eqb _ 2 (c .before .before .before .before .before .before .before .before .before .if1 .left), h, l)
+    let args = let p : tie.Start = search in p .args in
+    let if1 = let p : tie.Else1 = search in p .if1 in
+    let byte-at = let p : tie.After-byte-at = search in p .byte-at in
+    let hex-digit = let p : tie.After-hex-digit = search in p .hex-digit in
+    let high = let p : tie.After-high = search in p .high in
+    let byte-at2 = let p : tie.After-byte-at2 = search in p .byte-at2 in
+    let hex-digit2 = let p : tie.After-hex-digit2 = search in p .hex-digit2 in
+    let b = args .bytes .now in
+    let h : hexDigit (getD b 0 0) ≡ some (high .given .0 .0) =
+    ap hexDigit (sym (byte-at .ensures)) ∙ sym (hex-digit .ensures) ∙ ap byteRead (high .given .1) in
+    let l : hexDigit (getD b 1 0) ≡ none = ap hexDigit (sym (byte-at2 .ensures)) ∙ sym (hex-digit2 .ensures)
+    ∙ ap byteRead (c .enum-told2 .given .1) in
+    rw (eq-eqb _ 2 (if1 .left), h, l)
 
 mul-t7 : tie.Need-mul-t7
 mul-t7 c =
-    let b = c .before .before .before .before .before .before .before .before .before .before .before .before .args .bytes .now in
-    let h : hexDigit (getD b 0 0) ≡ some (c .before .before .before .before .before .before .high .given .0 .0) = ap hexDigit (sym (c .before .before .before .before .before .before .before .before .before .byte-at .ensures)) ∙ sym (c .before .before .before .before .before .before .before .before .hex-digit .ensures) ∙ ap byteRead (c .before .before .before .before .before .before .high .given .1) in
-    let s = hex-small (getD b 0 0) (c .before .before .before .before .before .before .high .given .0 .0) h in
+    let args = let p : tie.Start = search in p .args in
+    let byte-at = let p : tie.After-byte-at = search in p .byte-at in
+    let hex-digit = let p : tie.After-hex-digit = search in p .hex-digit in
+    let high = let p : tie.After-high = search in p .high in
+    let b = args .bytes .now in
+    let h : hexDigit (getD b 0 0) ≡ some (high .given .0 .0) =
+    ap hexDigit (sym (byte-at .ensures)) ∙ sym (hex-digit .ensures) ∙ ap byteRead (high .given .1) in
+    let s = hex-small (getD b 0 0) (high .given .0 .0) h in
     omega arith
 
 add-t9 : tie.Need-add-t9
 add-t9 c =
-    let b = c .before .before .before .before .before .before .before .before .before .before .before .before .args .bytes .now in
-    let h : hexDigit (getD b 0 0) ≡ some (c .before .before .before .before .before .before .high .given .0 .0) = ap hexDigit (sym (c .before .before .before .before .before .before .before .before .before .byte-at .ensures)) ∙ sym (c .before .before .before .before .before .before .before .before .hex-digit .ensures) ∙ ap byteRead (c .before .before .before .before .before .before .high .given .1) in
-    let l : hexDigit (getD b 1 0) ≡ some (c .before .low .given .0 .0) = ap hexDigit (sym (c .before .before .before .before .byte-at2 .ensures)) ∙ sym (c .before .before .before .hex-digit2 .ensures) ∙ ap byteRead (c .before .low .given .1) in
-    let s = hex-small (getD b 0 0) (c .before .before .before .before .before .before .high .given .0 .0) h in
-    let t = hex-small (getD b 1 0) (c .before .low .given .0 .0) l in
+    let args = let p : tie.Start = search in p .args in
+    let byte-at = let p : tie.After-byte-at = search in p .byte-at in
+    let hex-digit = let p : tie.After-hex-digit = search in p .hex-digit in
+    let high = let p : tie.After-high = search in p .high in
+    let byte-at2 = let p : tie.After-byte-at2 = search in p .byte-at2 in
+    let hex-digit2 = let p : tie.After-hex-digit2 = search in p .hex-digit2 in
+    let low = let p : tie.After-low = search in p .low in
+    let b = args .bytes .now in
+    let h : hexDigit (getD b 0 0) ≡ some (high .given .0 .0) =
+    ap hexDigit (sym (byte-at .ensures)) ∙ sym (hex-digit .ensures) ∙ ap byteRead (high .given .1) in
+    let l : hexDigit (getD b 1 0) ≡ some (low .given .0 .0) =
+    ap hexDigit (sym (byte-at2 .ensures)) ∙ sym (hex-digit2 .ensures) ∙ ap byteRead (low .given .1) in
+    let s = hex-small (getD b 0 0) (high .given .0 .0) h in
+    let t = hex-small (getD b 1 0) (low .given .0 .0) l in
     omega arith
 
 returns-4 : tie.Need-returns-4
 unfolding hashByte
 returns-4 c =
-    let b = c .before .before .before .before .before .before .before .before .before .before .before .before .args .bytes .now in
-    let h : hexDigit (getD b 0 0) ≡ some (c .before .before .before .before .before .before .high .given .0 .0) = ap hexDigit (sym (c .before .before .before .before .before .before .before .before .before .byte-at .ensures)) ∙ sym (c .before .before .before .before .before .before .before .before .hex-digit .ensures) ∙ ap byteRead (c .before .before .before .before .before .before .high .given .1) in
-    let l : hexDigit (getD b 1 0) ≡ some (c .before .low .given .0 .0) = ap hexDigit (sym (c .before .before .before .before .byte-at2 .ensures)) ∙ sym (c .before .before .before .hex-digit2 .ensures) ∙ ap byteRead (c .before .low .given .1) in
-    rw (eq-eqb _ 2 (c .before .before .before .before .before .before .before .before .before .before .if1 .left), h, l)
+    let args = let p : tie.Start = search in p .args in
+    let if1 = let p : tie.Else1 = search in p .if1 in
+    let byte-at = let p : tie.After-byte-at = search in p .byte-at in
+    let hex-digit = let p : tie.After-hex-digit = search in p .hex-digit in
+    let high = let p : tie.After-high = search in p .high in
+    let byte-at2 = let p : tie.After-byte-at2 = search in p .byte-at2 in
+    let hex-digit2 = let p : tie.After-hex-digit2 = search in p .hex-digit2 in
+    let low = let p : tie.After-low = search in p .low in
+    let b = args .bytes .now in
+    let h : hexDigit (getD b 0 0) ≡ some (high .given .0 .0) =
+    ap hexDigit (sym (byte-at .ensures)) ∙ sym (hex-digit .ensures) ∙ ap byteRead (high .given .1) in
+    let l : hexDigit (getD b 1 0) ≡ some (low .given .0 .0) =
+    ap hexDigit (sym (byte-at2 .ensures)) ∙ sym (hex-digit2 .ensures) ∙ ap byteRead (low .given .1) in
+    rw (eq-eqb _ 2 (if1 .left), h, l)
 
 pub read-hash-spec : {M : Type 1} → statement M
 read-hash-spec =

@@ -11,13 +11,16 @@ use Rattle.trial_lines.proofs.numbers.read_number.Statement.{statement}
 use Rattle.trial_lines.proofs.numbers.read_number.Tie as tie
 
 abbrev Inv-loop : tie.InvT-loop
-Inv-loop bytes most n₀ i₀ n i = (i ≤ length bytes) × ((n ≤ most) × ((allDigits bytes ≡ allDigits (drop i bytes)) × (valueFrom 0 bytes ≡ valueFrom n (drop i bytes))))
+Inv-loop bytes most n₀ i₀ n i = (i ≤ length bytes) × ((n ≤ most) × ((allDigits bytes ≡ allDigits (drop i bytes)) ×
+    (valueFrom 0 bytes ≡ valueFrom n (drop i bytes))))
 
 abbrev μ-loop : tie.MeasureT-loop
 μ-loop bytes most n₀ i₀ n i = length bytes - i
 
 returns : tie.Need-returns Inv-loop μ-loop
-returns c = sym (number-empty (c .before .before .args .most) (c .before .before .args .bytes .now) (c .if1 .taken))
+returns c =
+    let args = let p : tie.Start Inv-loop μ-loop = search in p .args in
+    sym (number-empty (args .most) (args .bytes .now) (c .if1 .taken))
 
 loop-holds : tie.Need-loop-holds Inv-loop μ-loop
 loop-holds c = (omega arith, (omega arith, (refl, refl)))
@@ -30,10 +33,12 @@ is-digit-requires c κs = tt
 
 returns-2 : tie.Need-returns-2 Inv-loop μ-loop
 returns-2 c =
-    let l = c .before .before .before .before .loop in
-    let b = c .before .before .before .before .before .before .before .args .bytes .now in
-    let d : isDigit (getD b (l .i) 0) ≡ false = sym (c .before .is-digit .ensures) ∙ not-true (c .before .is-digit .result) (c .if2 .taken) in
-    sym (number-not (c .before .before .before .before .before .before .before .args .most) b (l .inv .1 .1 .0 ∙ digits-stop b (l .i) (omega arith) d))
+    let args = let p : tie.Start Inv-loop μ-loop = search in p .args in
+    let l = let p : tie.At-loop Inv-loop μ-loop = search in p .loop in
+    let is-digit = let p : tie.After-is-digit Inv-loop μ-loop = search in p .is-digit in
+    let b = args .bytes .now in
+    let d : isDigit (getD b (l .i) 0) ≡ false = sym (is-digit .ensures) ∙ not-true (is-digit .result) (c .if2 .taken) in
+    sym (number-not (args .most) b (l .inv .1 .1 .0 ∙ digits-stop b (l .i) (omega arith) d))
 
 value-requires : tie.Need-value-requires Inv-loop μ-loop
 value-requires c κs = tt
@@ -43,24 +48,33 @@ fits-requires c κs = tt
 
 returns-3 : tie.Need-returns-3 Inv-loop μ-loop
 returns-3 c =
-    let l = c .before .before .before .before .before .before .before .loop in
-    let b = c .before .before .before .before .before .before .before .before .before .before .args .bytes .now in
-    let h = leb-false (l .n * 10 + c .before .before .value .result) (c .before .before .before .before .before .before .before .before .before .before .args .most) (sym (c .before .fits2 .ensures) ∙ not-true (c .before .fits2 .result) (c .if3 .taken)) in
-    let e : c .before .before .value .result ≡ getD b (l .i) 0 - 48 = c .before .before .value .ensures in
+    let args = let p : tie.Start Inv-loop μ-loop = search in p .args in
+    let l = let p : tie.At-loop Inv-loop μ-loop = search in p .loop in
+    let value = let p : tie.After-value Inv-loop μ-loop = search in p .value in
+    let fits2 = let p : tie.After-fits2 Inv-loop μ-loop = search in p .fits2 in
+    let b = args .bytes .now in
+    let h = leb-false (l .n * 10 + value .result) (args .most) (sym (fits2 .ensures) ∙ not-true (fits2 .result) (c .if3 .taken)) in
+    let e : value .result ≡ getD b (l .i) 0 - 48 = value .ensures in
     let g = value-grows (l .n * 10 + (getD b (l .i) 0 - 48)) (drop (l .i + 1) b) in
     let v = l .inv .1 .1 .1 ∙ value-goes b (l .n) (l .i) (omega arith) in
-    sym (number-large (c .before .before .before .before .before .before .before .before .before .before .args .most) b (omega arith))
+    sym (number-large (args .most) b (omega arith))
 
 mul-n : tie.Need-mul-n Inv-loop μ-loop
 mul-n c =
-    let l = c .before .before .before .before .before .before .before .loop in
-    let h = leb-true (l .n * 10 + c .before .before .value .result) (c .before .before .before .before .before .before .before .before .before .before .args .most) (sym (c .before .fits2 .ensures) ∙ not-false (c .before .fits2 .result) (c .if3 .left)) in
+    let args = let p : tie.Start Inv-loop μ-loop = search in p .args in
+    let l = let p : tie.At-loop Inv-loop μ-loop = search in p .loop in
+    let value = let p : tie.After-value Inv-loop μ-loop = search in p .value in
+    let fits2 = let p : tie.After-fits2 Inv-loop μ-loop = search in p .fits2 in
+    let h = leb-true (l .n * 10 + value .result) (args .most) (sym (fits2 .ensures) ∙ not-false (fits2 .result) (c .if3 .left)) in
     omega arith
 
 add-n : tie.Need-add-n Inv-loop μ-loop
 add-n c =
-    let l = c .before .before .before .before .before .before .before .loop in
-    let h = leb-true (l .n * 10 + c .before .before .value .result) (c .before .before .before .before .before .before .before .before .before .before .args .most) (sym (c .before .fits2 .ensures) ∙ not-false (c .before .fits2 .result) (c .if3 .left)) in
+    let args = let p : tie.Start Inv-loop μ-loop = search in p .args in
+    let l = let p : tie.At-loop Inv-loop μ-loop = search in p .loop in
+    let value = let p : tie.After-value Inv-loop μ-loop = search in p .value in
+    let fits2 = let p : tie.After-fits2 Inv-loop μ-loop = search in p .fits2 in
+    let h = leb-true (l .n * 10 + value .result) (args .most) (sym (fits2 .ensures) ∙ not-false (fits2 .result) (c .if3 .left)) in
     omega arith
 
 add-i : tie.Need-add-i Inv-loop μ-loop
@@ -71,25 +85,31 @@ loop-less c = omega arith
 
 loop-again : tie.Need-loop-again Inv-loop μ-loop
 loop-again c =
-    let l = c .before .before .before .before .before .before .before .loop in
-    let b = c .before .before .before .before .before .before .before .before .before .before .args .bytes .now in
-    let h = leb-true (l .n * 10 + c .before .before .value .result) (c .before .before .before .before .before .before .before .before .before .before .args .most) (sym (c .before .fits2 .ensures) ∙ not-false (c .before .fits2 .result) (c .if3 .left)) in
-    let d : isDigit (getD b (l .i) 0) ≡ true = sym (c .before .before .before .before .is-digit .ensures) ∙ not-false (c .before .before .before .before .is-digit .result) (c .before .before .before .if2 .left) in (
+    let args = let p : tie.Start Inv-loop μ-loop = search in p .args in
+    let l = let p : tie.At-loop Inv-loop μ-loop = search in p .loop in
+    let is-digit = let p : tie.After-is-digit Inv-loop μ-loop = search in p .is-digit in
+    let if2 = let p : tie.Else2 Inv-loop μ-loop = search in p .if2 in
+    let value = let p : tie.After-value Inv-loop μ-loop = search in p .value in
+    let fits2 = let p : tie.After-fits2 Inv-loop μ-loop = search in p .fits2 in
+    let b = args .bytes .now in
+    let h = leb-true (l .n * 10 + value .result) (args .most) (sym (fits2 .ensures) ∙ not-false (fits2 .result) (c .if3 .left)) in
+    let d : isDigit (getD b (l .i) 0) ≡ true = sym (is-digit .ensures) ∙ not-false (is-digit .result) (if2 .left) in (
       omega arith,
       (
         h,
         (
           l .inv .1 .1 .0 ∙ digits-go b (l .i) (omega arith) d,
-          rw (c .before .before .value .ensures) (l .inv .1 .1 .1 ∙ value-goes b (l .n) (l .i) (omega arith)),
+          rw (value .ensures) (l .inv .1 .1 .1 ∙ value-goes b (l .n) (l .i) (omega arith)),
         ),
       ),
     )
 
 returns-4 : tie.Need-returns-4 Inv-loop μ-loop
 returns-4 c =
-    let l = c .before .loop in
-    let b = c .before .before .before .before .args .bytes .now in
-    sym (number-is (c .before .before .before .before .args .most) b (l .n) (omega arith)
+    let args = let p : tie.Start Inv-loop μ-loop = search in p .args in
+    let l = let p : tie.At-loop Inv-loop μ-loop = search in p .loop in
+    let b = args .bytes .now in
+    sym (number-is (args .most) b (l .n) (omega arith)
     (l .inv .1 .1 .0 ∙ digits-end b (l .i) (omega arith))
     (l .inv .1 .1 .1 ∙ value-end b (l .n) (l .i) (omega arith))
     (l .inv .1 .0))

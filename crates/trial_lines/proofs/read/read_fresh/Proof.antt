@@ -22,7 +22,11 @@ enum-told c = search needs
 returns : tie.Need-returns
 unfolding freshOf
 returns c =
-    let n : number wordMost (first (c .before .before .before .before .before .args .fields .now)) ≡ none = ap (number wordMost) (sym (c .before .before .before .first .ensures)) ∙ sym (c .before .before .read-word .ensures) ∙ ap wordRead (c .enum-told .given .1) in
+    let args = let p : tie.Start = search in p .args in
+    let first-call = let p : tie.After-first = search in p .first in
+    let read-word = let p : tie.After-read-word = search in p .read-word in
+    let n : number wordMost (first (args .fields .now)) ≡ none =
+    ap (number wordMost) (sym (first-call .ensures)) ∙ sym (read-word .ensures) ∙ ap wordRead (c .enum-told .given .1) in
     rw n
 
 rest-requires : tie.Need-rest-requires
@@ -40,15 +44,32 @@ enum-told-2 c = search needs
 returns-2 : tie.Need-returns-2
 unfolding freshOf
 returns-2 c =
-    let n : number wordMost (first (c .before .before .before .before .before .before .before .before .before .before .args .fields .now)) ≡ some (c .before .before .before .before .before .n .given .0 .0) = ap (number wordMost) (sym (c .before .before .before .before .before .before .before .before .first .ensures)) ∙ sym (c .before .before .before .before .before .before .before .read-word .ensures) ∙ ap wordRead (c .before .before .before .before .before .n .given .1) in
-    let m : number wordMost (rest (c .before .before .before .before .before .before .before .before .before .before .args .fields .now)) ≡ none = ap (number wordMost) (sym (c .before .before .before .rest .ensures)) ∙ sym (c .before .before .read-word2 .ensures) ∙ ap wordRead (c .enum-told2 .given .1) in
+    let args = let p : tie.Start = search in p .args in
+    let first-call = let p : tie.After-first = search in p .first in
+    let read-word = let p : tie.After-read-word = search in p .read-word in
+    let n-call = let p : tie.After-n = search in p .n in
+    let rest-call = let p : tie.After-rest = search in p .rest in
+    let read-word2 = let p : tie.After-read-word2 = search in p .read-word2 in
+    let n : number wordMost (first (args .fields .now)) ≡ some (n-call .given .0 .0) =
+    ap (number wordMost) (sym (first-call .ensures)) ∙ sym (read-word .ensures) ∙ ap wordRead (n-call .given .1) in
+    let m : number wordMost (rest (args .fields .now)) ≡ none =
+    ap (number wordMost) (sym (rest-call .ensures)) ∙ sym (read-word2 .ensures) ∙ ap wordRead (c .enum-told2 .given .1) in
     rw (n, m)
 
 returns-3 : tie.Need-returns-3
 unfolding freshOf
 returns-3 c =
-    let n : number wordMost (first (c .before .before .before .before .before .before .before .before .before .before .before .args .fields .now)) ≡ some (c .before .before .before .before .before .before .n .given .0 .0) = ap (number wordMost) (sym (c .before .before .before .before .before .before .before .before .before .first .ensures)) ∙ sym (c .before .before .before .before .before .before .before .before .read-word .ensures) ∙ ap wordRead (c .before .before .before .before .before .before .n .given .1) in
-    let m : number wordMost (rest (c .before .before .before .before .before .before .before .before .before .before .before .args .fields .now)) ≡ some (c .before .m .given .0 .0) = ap (number wordMost) (sym (c .before .before .before .before .rest .ensures)) ∙ sym (c .before .before .before .read-word2 .ensures) ∙ ap wordRead (c .before .m .given .1) in
+    let args = let p : tie.Start = search in p .args in
+    let first-call = let p : tie.After-first = search in p .first in
+    let read-word = let p : tie.After-read-word = search in p .read-word in
+    let n-call = let p : tie.After-n = search in p .n in
+    let rest-call = let p : tie.After-rest = search in p .rest in
+    let read-word2 = let p : tie.After-read-word2 = search in p .read-word2 in
+    let m-call = let p : tie.After-m = search in p .m in
+    let n : number wordMost (first (args .fields .now)) ≡ some (n-call .given .0 .0) =
+    ap (number wordMost) (sym (first-call .ensures)) ∙ sym (read-word .ensures) ∙ ap wordRead (n-call .given .1) in
+    let m : number wordMost (rest (args .fields .now)) ≡ some (m-call .given .0 .0) =
+    ap (number wordMost) (sym (rest-call .ensures)) ∙ sym (read-word2 .ensures) ∙ ap wordRead (m-call .given .1) in
     rw (n, m)
 
 pub read-fresh-spec : {M : Type 1} → statement M

@@ -1,7 +1,7 @@
 -- By the letter.
 use mathlib.Core.Path.{_≡_, sym, ap, _∙_}
 use borrow.Author.Tests.{eq-eqb, ne-eqb}
-use Rattle.trial_lines.specs.Reading.{letter, rest, parse, freshOf, admitOf, promoteOf, removeOf, timerOf, restartOf}
+use Rattle.trial_lines.specs.Reading.{letter, parse, freshOf, admitOf, promoteOf, removeOf, timerOf, restartOf}
 use Rattle.trial_lines.proofs.read.read_line.Statement.{statement}
 use Rattle.trial_lines.proofs.read.read_line.Tie as tie
 
@@ -17,9 +17,13 @@ read-fresh-requires c κs = tt
 returns : tie.Need-returns
 unfolding parse
 returns c =
-    let b = c .before .before .before .before .before .args .line .now in
-    let k : c .before .before .letter .result ≡ letter b = c .before .before .letter .ensures in
-    rw (eq-eqb (letter b) 78 (sym k ∙ c .before .if1 .taken)) (c .read-fresh .ensures ∙ ap freshOf (c .before .before .before .rest .ensures))
+    let args = let p : tie.Start = search in p .args in
+    let rest-call = let p : tie.After-rest = search in p .rest in
+    let letter-call = let p : tie.After-letter = search in p .letter in
+    let if1 = let p : tie.Then1 = search in p .if1 in
+    let b = args .line .now in
+    let k : letter-call .result ≡ letter b = letter-call .ensures in
+    rw (eq-eqb (letter b) 78 (sym k ∙ if1 .taken)) (c .read-fresh .ensures ∙ ap freshOf (rest-call .ensures))
 
 read-admit-requires : tie.Need-read-admit-requires
 read-admit-requires c κs = tt
@@ -27,9 +31,17 @@ read-admit-requires c κs = tt
 returns-2 : tie.Need-returns-2
 unfolding parse
 returns-2 c =
-    let b = c .before .before .before .before .before .before .args .line .now in
-    let k : c .before .before .before .letter .result ≡ letter b = c .before .before .before .letter .ensures in
-    rw (ne-eqb (letter b) 78 (λ e. c .before .before .if1 .left (k ∙ e)), eq-eqb (letter b) 65 (sym k ∙ c .before .if2 .taken)) (c .read-admit .ensures ∙ ap admitOf (c .before .before .before .before .rest .ensures))
+    let args = let p : tie.Start = search in p .args in
+    let rest-call = let p : tie.After-rest = search in p .rest in
+    let letter-call = let p : tie.After-letter = search in p .letter in
+    let if1 = let p : tie.Else1 = search in p .if1 in
+    let if2 = let p : tie.Then2 = search in p .if2 in
+    let b = args .line .now in
+    let k : letter-call .result ≡ letter b = letter-call .ensures in
+    rw (
+      ne-eqb (letter b) 78 (λ e. if1 .left (k ∙ e)),
+      eq-eqb (letter b) 65 (sym k ∙ if2 .taken),
+    ) (c .read-admit .ensures ∙ ap admitOf (rest-call .ensures))
 
 read-promote-requires : tie.Need-read-promote-requires
 read-promote-requires c κs = tt
@@ -37,9 +49,19 @@ read-promote-requires c κs = tt
 returns-3 : tie.Need-returns-3
 unfolding parse
 returns-3 c =
-    let b = c .before .before .before .before .before .before .before .args .line .now in
-    let k : c .before .before .before .before .letter .result ≡ letter b = c .before .before .before .before .letter .ensures in
-    rw (ne-eqb (letter b) 78 (λ e. c .before .before .before .if1 .left (k ∙ e)), ne-eqb (letter b) 65 (λ e. c .before .before .if2 .left (k ∙ e)), eq-eqb (letter b) 80 (sym k ∙ c .before .if3 .taken)) (c .read-promote .ensures ∙ ap promoteOf (c .before .before .before .before .before .rest .ensures))
+    let args = let p : tie.Start = search in p .args in
+    let rest-call = let p : tie.After-rest = search in p .rest in
+    let letter-call = let p : tie.After-letter = search in p .letter in
+    let if1 = let p : tie.Else1 = search in p .if1 in
+    let if2 = let p : tie.Else2 = search in p .if2 in
+    let if3 = let p : tie.Then3 = search in p .if3 in
+    let b = args .line .now in
+    let k : letter-call .result ≡ letter b = letter-call .ensures in
+    rw (
+      ne-eqb (letter b) 78 (λ e. if1 .left (k ∙ e)),
+      ne-eqb (letter b) 65 (λ e. if2 .left (k ∙ e)),
+      eq-eqb (letter b) 80 (sym k ∙ if3 .taken),
+    ) (c .read-promote .ensures ∙ ap promoteOf (rest-call .ensures))
 
 read-remove-requires : tie.Need-read-remove-requires
 read-remove-requires c κs = tt
@@ -47,9 +69,21 @@ read-remove-requires c κs = tt
 returns-4 : tie.Need-returns-4
 unfolding parse
 returns-4 c =
-    let b = c .before .before .before .before .before .before .before .before .args .line .now in
-    let k : c .before .before .before .before .before .letter .result ≡ letter b = c .before .before .before .before .before .letter .ensures in
-    rw (ne-eqb (letter b) 78 (λ e. c .before .before .before .before .if1 .left (k ∙ e)), ne-eqb (letter b) 65 (λ e. c .before .before .before .if2 .left (k ∙ e)), ne-eqb (letter b) 80 (λ e. c .before .before .if3 .left (k ∙ e)), eq-eqb (letter b) 68 (sym k ∙ c .before .if4 .taken)) (c .read-remove .ensures ∙ ap removeOf (c .before .before .before .before .before .before .rest .ensures))
+    let args = let p : tie.Start = search in p .args in
+    let rest-call = let p : tie.After-rest = search in p .rest in
+    let letter-call = let p : tie.After-letter = search in p .letter in
+    let if1 = let p : tie.Else1 = search in p .if1 in
+    let if2 = let p : tie.Else2 = search in p .if2 in
+    let if3 = let p : tie.Else3 = search in p .if3 in
+    let if4 = let p : tie.Then4 = search in p .if4 in
+    let b = args .line .now in
+    let k : letter-call .result ≡ letter b = letter-call .ensures in
+    rw (
+      ne-eqb (letter b) 78 (λ e. if1 .left (k ∙ e)),
+      ne-eqb (letter b) 65 (λ e. if2 .left (k ∙ e)),
+      ne-eqb (letter b) 80 (λ e. if3 .left (k ∙ e)),
+      eq-eqb (letter b) 68 (sym k ∙ if4 .taken),
+    ) (c .read-remove .ensures ∙ ap removeOf (rest-call .ensures))
 
 read-timer-requires : tie.Need-read-timer-requires
 read-timer-requires c κs = tt
@@ -57,9 +91,23 @@ read-timer-requires c κs = tt
 returns-5 : tie.Need-returns-5
 unfolding parse
 returns-5 c =
-    let b = c .before .before .before .before .before .before .before .before .before .args .line .now in
-    let k : c .before .before .before .before .before .before .letter .result ≡ letter b = c .before .before .before .before .before .before .letter .ensures in
-    rw (ne-eqb (letter b) 78 (λ e. c .before .before .before .before .before .if1 .left (k ∙ e)), ne-eqb (letter b) 65 (λ e. c .before .before .before .before .if2 .left (k ∙ e)), ne-eqb (letter b) 80 (λ e. c .before .before .before .if3 .left (k ∙ e)), ne-eqb (letter b) 68 (λ e. c .before .before .if4 .left (k ∙ e)), eq-eqb (letter b) 84 (sym k ∙ c .before .if5 .taken)) (c .read-timer .ensures ∙ ap timerOf (c .before .before .before .before .before .before .before .rest .ensures))
+    let args = let p : tie.Start = search in p .args in
+    let rest-call = let p : tie.After-rest = search in p .rest in
+    let letter-call = let p : tie.After-letter = search in p .letter in
+    let if1 = let p : tie.Else1 = search in p .if1 in
+    let if2 = let p : tie.Else2 = search in p .if2 in
+    let if3 = let p : tie.Else3 = search in p .if3 in
+    let if4 = let p : tie.Else4 = search in p .if4 in
+    let if5 = let p : tie.Then5 = search in p .if5 in
+    let b = args .line .now in
+    let k : letter-call .result ≡ letter b = letter-call .ensures in
+    rw (
+      ne-eqb (letter b) 78 (λ e. if1 .left (k ∙ e)),
+      ne-eqb (letter b) 65 (λ e. if2 .left (k ∙ e)),
+      ne-eqb (letter b) 80 (λ e. if3 .left (k ∙ e)),
+      ne-eqb (letter b) 68 (λ e. if4 .left (k ∙ e)),
+      eq-eqb (letter b) 84 (sym k ∙ if5 .taken),
+    ) (c .read-timer .ensures ∙ ap timerOf (rest-call .ensures))
 
 read-restart-requires : tie.Need-read-restart-requires
 read-restart-requires c κs = tt
@@ -67,16 +115,46 @@ read-restart-requires c κs = tt
 returns-6 : tie.Need-returns-6
 unfolding parse
 returns-6 c =
-    let b = c .before .before .before .before .before .before .before .before .before .before .args .line .now in
-    let k : c .before .before .before .before .before .before .before .letter .result ≡ letter b = c .before .before .before .before .before .before .before .letter .ensures in
-    rw (ne-eqb (letter b) 78 (λ e. c .before .before .before .before .before .before .if1 .left (k ∙ e)), ne-eqb (letter b) 65 (λ e. c .before .before .before .before .before .if2 .left (k ∙ e)), ne-eqb (letter b) 80 (λ e. c .before .before .before .before .if3 .left (k ∙ e)), ne-eqb (letter b) 68 (λ e. c .before .before .before .if4 .left (k ∙ e)), ne-eqb (letter b) 84 (λ e. c .before .before .if5 .left (k ∙ e)), eq-eqb (letter b) 82 (sym k ∙ c .before .if6 .taken)) (c .read-restart .ensures ∙ ap restartOf (c .before .before .before .before .before .before .before .before .rest .ensures))
+    let args = let p : tie.Start = search in p .args in
+    let rest-call = let p : tie.After-rest = search in p .rest in
+    let letter-call = let p : tie.After-letter = search in p .letter in
+    let if1 = let p : tie.Else1 = search in p .if1 in
+    let if2 = let p : tie.Else2 = search in p .if2 in
+    let if3 = let p : tie.Else3 = search in p .if3 in
+    let if4 = let p : tie.Else4 = search in p .if4 in
+    let if5 = let p : tie.Else5 = search in p .if5 in
+    let if6 = let p : tie.Then6 = search in p .if6 in
+    let b = args .line .now in
+    let k : letter-call .result ≡ letter b = letter-call .ensures in
+    rw (
+      ne-eqb (letter b) 78 (λ e. if1 .left (k ∙ e)),
+      ne-eqb (letter b) 65 (λ e. if2 .left (k ∙ e)),
+      ne-eqb (letter b) 80 (λ e. if3 .left (k ∙ e)),
+      ne-eqb (letter b) 68 (λ e. if4 .left (k ∙ e)),
+      ne-eqb (letter b) 84 (λ e. if5 .left (k ∙ e)),
+      eq-eqb (letter b) 82 (sym k ∙ if6 .taken),
+    ) (c .read-restart .ensures ∙ ap restartOf (rest-call .ensures))
 
 returns-7 : tie.Need-returns-7
 unfolding parse
 returns-7 c =
-    let b = c .before .before .before .before .before .before .before .before .before .args .line .now in
-    let k : c .before .before .before .before .before .before .letter .result ≡ letter b = c .before .before .before .before .before .before .letter .ensures in
-    rw (ne-eqb (letter b) 78 (λ e. c .before .before .before .before .before .if1 .left (k ∙ e)), ne-eqb (letter b) 65 (λ e. c .before .before .before .before .if2 .left (k ∙ e)), ne-eqb (letter b) 80 (λ e. c .before .before .before .if3 .left (k ∙ e)), ne-eqb (letter b) 68 (λ e. c .before .before .if4 .left (k ∙ e)), ne-eqb (letter b) 84 (λ e. c .before .if5 .left (k ∙ e)), ne-eqb (letter b) 82 (λ e. c .if6 .left (k ∙ e)))
+    let args = let p : tie.Start = search in p .args in
+    let letter-call = let p : tie.After-letter = search in p .letter in
+    let if1 = let p : tie.Else1 = search in p .if1 in
+    let if2 = let p : tie.Else2 = search in p .if2 in
+    let if3 = let p : tie.Else3 = search in p .if3 in
+    let if4 = let p : tie.Else4 = search in p .if4 in
+    let if5 = let p : tie.Else5 = search in p .if5 in
+    let b = args .line .now in
+    let k : letter-call .result ≡ letter b = letter-call .ensures in
+    rw (
+      ne-eqb (letter b) 78 (λ e. if1 .left (k ∙ e)),
+      ne-eqb (letter b) 65 (λ e. if2 .left (k ∙ e)),
+      ne-eqb (letter b) 80 (λ e. if3 .left (k ∙ e)),
+      ne-eqb (letter b) 68 (λ e. if4 .left (k ∙ e)),
+      ne-eqb (letter b) 84 (λ e. if5 .left (k ∙ e)),
+      ne-eqb (letter b) 82 (λ e. c .if6 .left (k ∙ e)),
+    )
 
 pub read-line-spec : {M : Type 1} → statement M
 read-line-spec =

@@ -22,7 +22,11 @@ enum-told c = search needs
 returns : tie.Need-returns
 unfolding timerOf
 returns c =
-    let n : number timeMost (first (c .before .before .before .before .before .args .fields .now)) ≡ none = ap (number timeMost) (sym (c .before .before .before .first .ensures)) ∙ sym (c .before .before .read-time .ensures) ∙ ap timeRead (c .enum-told .given .1) in
+    let args = let p : tie.Start = search in p .args in
+    let first-call = let p : tie.After-first = search in p .first in
+    let read-time = let p : tie.After-read-time = search in p .read-time in
+    let n : number timeMost (first (args .fields .now)) ≡ none =
+    ap (number timeMost) (sym (first-call .ensures)) ∙ sym (read-time .ensures) ∙ ap timeRead (c .enum-told .given .1) in
     rw n
 
 rest-requires : tie.Need-rest-requires
@@ -40,15 +44,32 @@ enum-told-2 c = search needs
 returns-2 : tie.Need-returns-2
 unfolding timerOf
 returns-2 c =
-    let n : number timeMost (first (c .before .before .before .before .before .before .before .before .before .before .args .fields .now)) ≡ some (c .before .before .before .before .before .clock .given .0 .0) = ap (number timeMost) (sym (c .before .before .before .before .before .before .before .before .first .ensures)) ∙ sym (c .before .before .before .before .before .before .before .read-time .ensures) ∙ ap timeRead (c .before .before .before .before .before .clock .given .1) in
-    let m : number timeMost (rest (c .before .before .before .before .before .before .before .before .before .before .args .fields .now)) ≡ none = ap (number timeMost) (sym (c .before .before .before .rest .ensures)) ∙ sym (c .before .before .read-time2 .ensures) ∙ ap timeRead (c .enum-told2 .given .1) in
+    let args = let p : tie.Start = search in p .args in
+    let first-call = let p : tie.After-first = search in p .first in
+    let read-time = let p : tie.After-read-time = search in p .read-time in
+    let clock = let p : tie.After-clock = search in p .clock in
+    let rest-call = let p : tie.After-rest = search in p .rest in
+    let read-time2 = let p : tie.After-read-time2 = search in p .read-time2 in
+    let n : number timeMost (first (args .fields .now)) ≡ some (clock .given .0 .0) =
+    ap (number timeMost) (sym (first-call .ensures)) ∙ sym (read-time .ensures) ∙ ap timeRead (clock .given .1) in
+    let m : number timeMost (rest (args .fields .now)) ≡ none =
+    ap (number timeMost) (sym (rest-call .ensures)) ∙ sym (read-time2 .ensures) ∙ ap timeRead (c .enum-told2 .given .1) in
     rw (n, m)
 
 returns-3 : tie.Need-returns-3
 unfolding timerOf
 returns-3 c =
-    let n : number timeMost (first (c .before .before .before .before .before .before .before .before .before .before .before .args .fields .now)) ≡ some (c .before .before .before .before .before .before .clock .given .0 .0) = ap (number timeMost) (sym (c .before .before .before .before .before .before .before .before .before .first .ensures)) ∙ sym (c .before .before .before .before .before .before .before .before .read-time .ensures) ∙ ap timeRead (c .before .before .before .before .before .before .clock .given .1) in
-    let m : number timeMost (rest (c .before .before .before .before .before .before .before .before .before .before .before .args .fields .now)) ≡ some (c .before .retry .given .0 .0) = ap (number timeMost) (sym (c .before .before .before .before .rest .ensures)) ∙ sym (c .before .before .before .read-time2 .ensures) ∙ ap timeRead (c .before .retry .given .1) in
+    let args = let p : tie.Start = search in p .args in
+    let first-call = let p : tie.After-first = search in p .first in
+    let read-time = let p : tie.After-read-time = search in p .read-time in
+    let clock = let p : tie.After-clock = search in p .clock in
+    let rest-call = let p : tie.After-rest = search in p .rest in
+    let read-time2 = let p : tie.After-read-time2 = search in p .read-time2 in
+    let retry = let p : tie.After-retry = search in p .retry in
+    let n : number timeMost (first (args .fields .now)) ≡ some (clock .given .0 .0) =
+    ap (number timeMost) (sym (first-call .ensures)) ∙ sym (read-time .ensures) ∙ ap timeRead (clock .given .1) in
+    let m : number timeMost (rest (args .fields .now)) ≡ some (retry .given .0 .0) =
+    ap (number timeMost) (sym (rest-call .ensures)) ∙ sym (read-time2 .ensures) ∙ ap timeRead (retry .given .1) in
     rw (n, m)
 
 pub read-timer-spec : {M : Type 1} → statement M

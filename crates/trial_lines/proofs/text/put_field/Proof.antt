@@ -18,8 +18,11 @@ same-length c = search needs
 returns : tie.Need-returns
 unfolding field
 returns c =
-    let a = c .before .before .before .before .before .before .before .before .before .args in
-    put-then (a .out .now) (c .before .before .before .before .before .before .put .last .0) (c .before .before .put-number .last .0) (32 ∷ []) (digits (a .n)) (a .at) (c .before .before .before .before .before .before .put .result) (c .before .before .put-number .result) (c .before .before .before .before .before .before .put .ensures) (c .before .before .put-number .ensures)
+    let a = let p : tie.Start = search in p .args in
+    let put = let p : tie.After-put = search in p .put in
+    let put-number = let p : tie.After-put-number = search in p .put-number in
+    put-then (a .out .now) (put .last .0) (put-number .last .0) (32 ∷ []) (digits (a .n)) (a .at) (put .result) (put-number .result) (put .ensures)
+    (put-number .ensures)
 
 pub put-field-spec : {M : Type 1} → statement M
 put-field-spec = tie.close (tie.spec put-requires put-number-requires same-length returns)

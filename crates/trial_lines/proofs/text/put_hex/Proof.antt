@@ -25,8 +25,13 @@ same-length c = search needs
 returns : tie.Need-returns
 unfolding hex
 returns c =
-    let a = c .before .before .before .before .before .before .before .before .before .before .before .args in
-    put-then (a .out .now) (c .before .before .before .before .before .before .before .put .last .0) (c .before .before .put2 .last .0) (hexChar (a .byte / 16 % 16) ∷ []) (hexChar (a .byte % 16) ∷ []) (a .at) (c .before .before .before .before .before .before .before .put .result) (c .before .before .put2 .result) (rw (c .before .before .before .before .before .before .before .before .hex-char .ensures) at (c .before .before .before .before .before .before .before .put .ensures)) (rw (c .before .before .before .hex-char2 .ensures) at (c .before .before .put2 .ensures))
+    let a = let p : tie.Start = search in p .args in
+    let hex-char = let p : tie.After-hex-char = search in p .hex-char in
+    let put = let p : tie.After-put = search in p .put in
+    let hex-char2 = let p : tie.After-hex-char2 = search in p .hex-char2 in
+    let put2 = let p : tie.After-put2 = search in p .put2 in
+    put-then (a .out .now) (put .last .0) (put2 .last .0) (hexChar (a .byte / 16 % 16) ∷ []) (hexChar (a .byte % 16) ∷ []) (a .at) (put .result)
+    (put2 .result) (rw (hex-char .ensures) at (put .ensures)) (rw (hex-char2 .ensures) at (put2 .ensures))
 
 pub put-hex-spec : {M : Type 1} → statement M
 put-hex-spec =

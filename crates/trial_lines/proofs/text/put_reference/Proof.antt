@@ -20,9 +20,12 @@ same-length c = search needs
 returns : tie.Need-returns
 unfolding reference
 returns c =
-    let a = c .before .before .before .before .before .before .before .before .before .before .before .before .args in
-    rw (eq-eqb (a .slot .0) NONE (c .before .before .before .before .before .before .before .before .if1 .taken))
-    (put-then (a .out .now) (c .before .before .before .before .before .before .put .last .0) (c .before .before .put2 .last .0) (32 ∷ []) (45 ∷ []) (a .at) (c .before .before .before .before .before .before .put .result) (c .before .before .put2 .result) (c .before .before .before .before .before .before .put .ensures) (c .before .before .put2 .ensures))
+    let a = let p : tie.Start = search in p .args in
+    let if1 = let p : tie.Then1 = search in p .if1 in
+    let put = let p : tie.After-put = search in p .put in
+    let put2 = let p : tie.After-put2 = search in p .put2 in
+    rw (eq-eqb (a .slot .0) NONE (if1 .taken))
+    (put-then (a .out .now) (put .last .0) (put2 .last .0) (32 ∷ []) (45 ∷ []) (a .at) (put .result) (put2 .result) (put .ensures) (put2 .ensures))
 
 put-field-requires : tie.Need-put-field-requires
 put-field-requires c κs = tt
@@ -32,7 +35,11 @@ same-length-2 c = search needs
 
 returns-2 : tie.Need-returns-2
 unfolding reference
-returns-2 c = rw (ne-eqb (c .before .before .before .before .before .before .before .before .args .slot .0) NONE (c .before .before .before .before .if1 .left)) (c .before .before .put-field .ensures)
+returns-2 c =
+    let args = let p : tie.Start = search in p .args in
+    let if1 = let p : tie.Else1 = search in p .if1 in
+    let put-field = let p : tie.After-put-field = search in p .put-field in
+    rw (ne-eqb (args .slot .0) NONE (if1 .left)) (put-field .ensures)
 
 pub put-reference-spec : {M : Type 1} → statement M
 put-reference-spec =

@@ -1,6 +1,6 @@
 -- A line has begun, or none.
 use borrow.Author.Needs.{needs}
-use Rattle.trial_calls.proofs.Telling.{the}
+use Rattle.rules.proofs.Places.{the}
 use Rattle.trial_session.proofs.Bytes.{last-ends, none-ends}
 use Rattle.trial_session.proofs.lines.end_last.Statement.{statement}
 use Rattle.trial_session.proofs.lines.end_last.Tie as tie

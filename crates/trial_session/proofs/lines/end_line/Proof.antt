@@ -1,7 +1,7 @@
 -- The sizes, the call on the fronts, and the sizes after it.
 use borrow.Author.Needs.{needs}
 use Rattle.rules.specs.Records.{tablesOf}
-use Rattle.trial_calls.proofs.Telling.{the}
+use Rattle.rules.proofs.Places.{the}
 use Rattle.trial_session.proofs.Answered.{line-ends}
 use Rattle.trial_session.proofs.Sized.{Sized}
 use Rattle.trial_session.proofs.lines.end_line.Statement.{statement}

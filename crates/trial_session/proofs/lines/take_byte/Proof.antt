@@ -1,6 +1,6 @@
 -- A byte ends the line or joins it.
 use borrow.Author.Needs.{needs}
-use Rattle.trial_calls.proofs.Telling.{the}
+use Rattle.rules.proofs.Places.{the}
 use Rattle.trial_session.proofs.Bytes.{byte-ends, byte-joins}
 use Rattle.trial_session.proofs.lines.take_byte.Statement.{statement}
 use Rattle.trial_session.proofs.lines.take_byte.Tie as tie

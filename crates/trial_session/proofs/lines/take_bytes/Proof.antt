@@ -5,7 +5,7 @@ use Prim.Native.Nat.{_≤_, _<_, _-_}
 use mathlib.Core.Path.{_≡_, refl}
 use lib.ListN.{length, take}
 use Rattle.rules.specs.Records.{tablesOf}
-use Rattle.trial_calls.proofs.Telling.{the}
+use Rattle.rules.proofs.Places.{the}
 use Rattle.trial_session.specs.Session.{fed}
 use Rattle.trial_session.specs.Held.{heldOf, sessionIn, heldFed, Comes}
 use Rattle.trial_session.proofs.Chunks.{comes-first, comes-turn, comes-all}

@@ -1,7 +1,7 @@
 use borrow.Author.Tests.{eq-eqb, ne-eqb}
 use Rattle.probe.specs.Numbers.{slotOrNone}
-use Rattle.probe.proofs.numbers.slot_or_none.Statement.{statement}
-use Rattle.probe.proofs.numbers.slot_or_none.Tie as tie
+use Rattle.probe.proofs.numbers.slot_from.Statement.{statement}
+use Rattle.probe.proofs.numbers.slot_from.Tie as tie
 
 returns : tie.Need-returns
 unfolding slotOrNone
@@ -11,5 +11,5 @@ returns-2 : tie.Need-returns-2
 unfolding slotOrNone
 returns-2 c = rw (ne-eqb _ _ (c .if1 .left))
 
-pub slot-or-none-spec : {M : Type 1} → statement M
-slot-or-none-spec = tie.close (tie.spec returns returns-2)
+pub slot-from-spec : {M : Type 1} → statement M
+slot-from-spec = tie.close (tie.spec returns returns-2)

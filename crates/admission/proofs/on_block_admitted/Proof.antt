@@ -20,9 +20,6 @@ to-place-head c = search
 abbrev to-adjust-head-ref-count : tie.After-place-head → tie.After-adjust-head-ref-count
 to-adjust-head-ref-count c = search
 
-abbrev to-adjust-head-ref-count-from-tips : tie.After-tips → tie.After-adjust-head-ref-count
-to-adjust-head-ref-count-from-tips c = search
-
 adjust-head-ref-count-requires : tie.Need-adjust-head-ref-count-requires
 adjust-head-ref-count-requires c κs = tt
 
@@ -110,7 +107,8 @@ returns : tie.Need-returns
 returns c =
     let r : tie.After-resolve-pending-tails = search in
     let h = to-place-head (to-tips r) in
-    steps _ _ _ _ _ _ _ _ _ (to-adjust-head-ref-count h .adjust-head-ref-count .ensures .1) (h .place-head .ensures) (r .resolve-pending-tails .ensures)
+    steps _ _ _ _ _ _ _ _ _ (to-adjust-head-ref-count h .adjust-head-ref-count .ensures .1) (h .place-head .ensures)
+    (r .resolve-pending-tails .ensures)
 
 pub on-block-admitted-spec : {M : Type 1} → statement M
 on-block-admitted-spec =

@@ -159,8 +159,8 @@ returns-8 : tie.Need-returns-8
 unfolding admit
 returns-8 c =
     let p = let q : tie.After-is-shaped = search in to-start q .args in
-    let is-shaped = let p : tie.After-is-shaped = search in p .is-shaped in
     let if1 = let p : tie.Else1 = search in p .if1 in
+    let e = let p : tie.After-is-shaped = search in sym (p .is-shaped .ensures) ∙ not-false (p .is-shaped .result) (if1 .left) in
     let if2 = let p : tie.Else2 = search in p .if2 in
     let if3 = let p : tie.Else3 = search in p .if3 in
     let if4 = let p : tie.Else4 = search in p .if4 in
@@ -177,8 +177,7 @@ returns-8 c =
     ap (λ (x : List ℕ). isSome (find (p .hashes .now) (p .sequences .now) (p .sequence .0) x)) (sym o) ∙ sym (is-known .ensures) ∙ if6 .left in
     let f = sym (next-free-index .ensures) ∙ ap slotFound (slot .given .1) in
     λ a t. rw (
-      ← is-shaped .ensures,
-      not-false (is-shaped .result) (if1 .left),
+      e,
       eq-eqb _ _ (if2 .left),
       eq-eqb _ _ (if3 .left),
       ne-eqb _ _ (if4 .left),

@@ -45,10 +45,11 @@
 //!
 //! # Building
 //!
-//! The build script links `target/staticlib/libstation.a` of the repository. Where that is missing or
-//! older than a file under `crates/` it runs `rt staticlib station`, which proves the crates first and
-//! so takes minutes from nothing; without the Rattle kit's `rt` on `PATH` it says so and stops. The
-//! archive is for x86-64.
+//! The build script links `libstation.a` of the folder `STATION_LIB_DIR`. Where that is not set it takes
+//! the repository's, `target/staticlib/libstation.a`, and makes it anew where it is not made of the files
+//! under `crates/` as they are. That runs `rt staticlib station`, which proves the crates first and so
+//! takes minutes from nothing; without the Rattle kit's `rt` on `PATH` it says so and stops. The archive
+//! is for x86-64.
 
 #![deny(unsafe_code, unsafe_op_in_unsafe_fn, missing_docs)]
 

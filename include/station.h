@@ -221,7 +221,7 @@ uint32_t station_next_free_index(const uint32_t *sequences, size_t sequences_len
 /* The slot of the parent that a block of this sequence and previous hash would have; sequence 0 has none. */
 uint32_t station_find_parent(
     const uint8_t *hashes, size_t hashes_len, const uint32_t *sequences, size_t sequences_len,
-    const uint8_t *previous, size_t previous_len, uint32_t sequence);
+    uint32_t sequence, const uint8_t *previous, size_t previous_len);
 
 /* 1 if the slot is occupied: then hash is its hash, and words[0] to words[3] are its parent, sequence, count and flags. */
 uint32_t station_get(

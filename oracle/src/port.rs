@@ -11,7 +11,7 @@ entries! {
     probe_hash_less([u8], [u8]) -> u32;
     station_find([u8], [u32], u32, [u8]) -> u32;
     station_next_free_index([u32]) -> u32;
-    station_find_parent([u8], [u32], [u8], u32) -> u32;
+    station_find_parent([u8], [u32], u32, [u8]) -> u32;
     station_get([u8], [u32], [u32], [u8], [u8], u32, [mut u8], [mut u32]) -> u32;
     station_head_ref_count([u32], [u8], u32) -> u32;
     station_status([u32], [u8], u32) -> u32;
@@ -118,7 +118,7 @@ pub fn next_free_index(t: &Tables) -> Option<u32> {
 }
 
 pub fn find_parent(t: &Tables, previous: Hash, sequence: u32) -> Option<u32> {
-    found(call!(station_find_parent([t.hashes], [t.sequences], [previous], sequence)))
+    found(call!(station_find_parent([t.hashes], [t.sequences], sequence, [previous])))
 }
 
 pub fn get(t: &Tables, slot: u32) -> Option<Block> {

@@ -92,7 +92,7 @@ entries! {
     fn station_find(hashes: &[u8], sequences: &[u32], sequence: u32, hash: &[u8]) -> u32;
     fn station_next_free_index(sequences: &[u32]) -> u32;
     fn station_find_parent(
-        hashes: &[u8], sequences: &[u32], previous: &[u8], sequence: u32
+        hashes: &[u8], sequences: &[u32], sequence: u32, previous: &[u8]
     ) -> u32;
     fn station_get(
         hashes: &[u8], parents: &[u32], sequences: &[u32], counts: &[u8], flags: &[u8],

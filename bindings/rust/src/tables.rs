@@ -292,9 +292,9 @@ impl Tables {
     }
 
     /// The lowest slot with the parent of a block of this sequence and previous hash.
-    pub fn find_parent(&self, previous: &Hash, sequence: Sequence) -> Option<BlockSlot> {
+    pub fn find_parent(&self, sequence: Sequence, previous: &Hash) -> Option<BlockSlot> {
         let Parts { hashes, sequences, .. } = &self.parts;
-        found(raw::station_find_parent(hashes, sequences, previous, sequence.0)).map(BlockSlot)
+        found(raw::station_find_parent(hashes, sequences, sequence.0, previous)).map(BlockSlot)
     }
 
     /// The lowest empty slot.

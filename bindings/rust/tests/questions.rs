@@ -52,9 +52,9 @@ fn searches() -> Result<(), Refusal> {
     assert_eq!(tables.find(Sequence(6), &hash(0x0c)), Some(BlockSlot(2)));
     assert_eq!(tables.find(Sequence(6), &hash(0x0b)), None);
     assert_eq!(tables.find(Sequence(5), &hash(0x0c)), None);
-    assert_eq!(tables.find_parent(&hash(0x0a), Sequence(6)), Some(BlockSlot(0)));
-    assert_eq!(tables.find_parent(&hash(0x0a), Sequence(5)), None);
-    assert_eq!(tables.find_parent(&hash(0x0a), Sequence(0)), None);
+    assert_eq!(tables.find_parent(Sequence(6), &hash(0x0a)), Some(BlockSlot(0)));
+    assert_eq!(tables.find_parent(Sequence(5), &hash(0x0a)), None);
+    assert_eq!(tables.find_parent(Sequence(0), &hash(0x0a)), None);
     assert_eq!(tables.next_free(), Some(BlockSlot(1)));
     assert_eq!(tables.head_ref_count(BlockSlot(2)), Some(1));
     assert_eq!(tables.head_ref_count(BlockSlot(1)), None);

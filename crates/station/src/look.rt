@@ -50,8 +50,8 @@ pub extern "C" fn station_next_free_index(sequences: &[u32]) -> u32
 pub extern "C" fn station_find_parent(
     hashes: &[u8],
     sequences: &[u32],
-    previous: &[u8],
     sequence: u32,
+    previous: &[u8],
 ) -> u32
     ensures { λ r. ⌜ r
         ≡ orNone (findParent (now (hashes .entry)) (now (sequences .entry)) sequence (hashAt (now (previous .entry)) 0)) ⌝ }

@@ -14,10 +14,9 @@
 //! tables.admit(Sequence(6), &[0x0c; 32], &[0x0a; 32], 3)?;
 //! tables.promote(pass)?;
 //!
-//! // The station restarts, and what it stored has no counts.
-//! let mut stored = tables.into_parts();
-//! stored.counts.fill(0);
-//! let mut tables = Tables::from_parts(stored);
+//! // The station saves its tables and stops. It loads them, and restarts.
+//! let saved = tables.to_bytes();
+//! let mut tables = Tables::from_bytes(&saved)?;
 //! tables.restart(10)?;
 //! assert_eq!(tables.head_ref_count(pass), Some(2));
 //!
@@ -40,22 +39,39 @@
 //!    afresh from the blocks, the active blocks are those promoted, and none was ever freed.
 //!
 //! Not proved, but tested: that this crate declares the archive's functions as they are (`src/raw.rs`),
-//! and the Rust around them, which lends the buffers and reads the answers; [`Tables::heads`] and
-//! [`Tables::head`] are Rust alone.
+//! and the Rust around them, which lends the buffers and reads the answers. [`Tables::heads`],
+//! [`Tables::head`], and what saves and loads are Rust alone.
+//!
+//! # What a station writes to disk
+//!
+//! [`Tables::to_bytes`] gives all that must outlast the station. Save it after each accepted call but
+//! the timer's, before anyone is told of the answer, and save it whole: write a second file, flush it to
+//! the disk and rename it over the first, so that a crash leaves the old tables or the new ones and
+//! nothing in between. When the station comes up again, [`Tables::from_bytes`] refuses what is not such
+//! bytes, and [`Tables::restart`] comes before all else. Of the bytes the hashes, parents, sequences and
+//! flags of the blocks and the record must come back as one call left them; the counts of blocks and
+//! the heads may be anything. They are the bytes of a store of `include/station.h`.
 //!
 //! # Building
 //!
-//! The build script links `libstation.a` of the folder `STATION_LIB_DIR`. Where that is not set it takes
-//! the repository's, `target/staticlib/libstation.a`, and makes it anew where it is not made of the files
-//! under `crates/` as they are. That runs `rt staticlib station`, which proves the crates first and so
-//! takes minutes from nothing; without the Rattle kit's `rt` on `PATH` it says so and stops. The archive
-//! is for x86-64.
+//! The crate needs `alloc` and no `std`. The build script links `libstation.a` of the folder
+//! `STATION_LIB_DIR`. Where that is not set it takes the repository's, `target/staticlib/libstation.a`,
+//! and makes it anew where it is not made of the files under `crates/` as they are. That runs
+//! `rt staticlib station`, which proves the crates first and so takes minutes from nothing; without the
+//! Rattle kit's `rt` on `PATH` it says so and stops.
 
+#![no_std]
 #![deny(unsafe_code, unsafe_op_in_unsafe_fn, missing_docs)]
+
+#[cfg(not(all(target_arch = "x86_64", target_pointer_width = "64")))]
+compile_error!("libstation.a is for x86-64 with 64-bit pointers");
+
+extern crate alloc;
 
 mod raw;
 mod records;
 mod refusal;
+mod store;
 mod tables;
 
 pub use records::{

@@ -1,5 +1,6 @@
 use crate::raw;
-use std::fmt;
+use core::cmp::Ordering;
+use core::fmt;
 
 /// The number that names no slot. It is also the sequence of an empty block slot, which no block may
 /// have.
@@ -38,8 +39,17 @@ impl fmt::Display for Sequence {
     }
 }
 
+/// A hash as hexadecimal digits in one word.
+struct Digits<'a>(&'a Hash);
+
+impl fmt::Debug for Digits<'_> {
+    fn fmt(&self, f: &mut fmt::Formatter) -> fmt::Result {
+        self.0.iter().try_for_each(|byte| write!(f, "{byte:02x}"))
+    }
+}
+
 /// A stored block.
-#[derive(Debug, Clone, Copy, PartialEq, Eq)]
+#[derive(Clone, Copy, PartialEq, Eq, Hash)]
 pub struct Block {
     /// The block's own hash.
     pub hash: Hash,
@@ -53,8 +63,20 @@ pub struct Block {
     pub active: bool,
 }
 
+impl fmt::Debug for Block {
+    fn fmt(&self, f: &mut fmt::Formatter) -> fmt::Result {
+        f.debug_struct("Block")
+            .field("hash", &Digits(&self.hash))
+            .field("parent", &self.parent)
+            .field("sequence", &self.sequence)
+            .field("count", &self.count)
+            .field("active", &self.active)
+            .finish()
+    }
+}
+
 /// How far the station has come with a block.
-#[derive(Debug, Clone, Copy, PartialEq, Eq)]
+#[derive(Debug, Clone, Copy, PartialEq, Eq, Hash)]
 pub enum Status {
     /// Stored alone.
     Stored,
@@ -65,7 +87,7 @@ pub enum Status {
 }
 
 /// A head: the tip of a branch, and where the branch stands.
-#[derive(Debug, Clone, Copy, PartialEq, Eq)]
+#[derive(Clone, Copy, PartialEq, Eq, Hash)]
 pub struct Head {
     /// The head's own slot.
     pub slot: HeadSlot,
@@ -83,8 +105,22 @@ pub struct Head {
     pub arrival: u64,
 }
 
+impl fmt::Debug for Head {
+    fn fmt(&self, f: &mut fmt::Formatter) -> fmt::Result {
+        f.debug_struct("Head")
+            .field("slot", &self.slot)
+            .field("tip", &self.tip)
+            .field("anchor", &self.anchor)
+            .field("connected", &self.connected)
+            .field("missing", &Digits(&self.missing))
+            .field("requested", &self.requested)
+            .field("arrival", &self.arrival)
+            .finish()
+    }
+}
+
 /// Where a parent walk ends.
-#[derive(Debug, Clone, Copy, PartialEq, Eq)]
+#[derive(Debug, Clone, Copy, PartialEq, Eq, Hash)]
 pub enum Anchor {
     /// At the first block on the active chain.
     Connection(BlockSlot),
@@ -94,7 +130,7 @@ pub enum Anchor {
 
 /// A missing block to ask for.
 // In this order the hash is moved as a whole: nothing of another answer lies over its first byte.
-#[derive(Debug, Clone, Copy, PartialEq, Eq)]
+#[derive(Clone, Copy, PartialEq, Eq, Hash)]
 #[repr(C)]
 pub struct Request {
     /// The stored head that waits for it.
@@ -105,7 +141,17 @@ pub struct Request {
     pub hash: Hash,
 }
 
-/// The weight of a branch.
+impl fmt::Debug for Request {
+    fn fmt(&self, f: &mut fmt::Formatter) -> fmt::Result {
+        f.debug_struct("Request")
+            .field("head", &self.head)
+            .field("sequence", &self.sequence)
+            .field("hash", &Digits(&self.hash))
+            .finish()
+    }
+}
+
+/// The weight of a branch. The greater goes before the lesser, so the heaviest is the `max`.
 ///
 /// ```
 /// use station::Rank;
@@ -113,8 +159,9 @@ pub struct Request {
 /// let heavy = Rank { value: 9, length: 3, hash: [2; 32] };
 /// let light = Rank { value: 8, length: 7, hash: [1; 32] };
 /// assert!(heavy.outranks(&light));
+/// assert_eq!([light, heavy].into_iter().max(), Some(heavy));
 /// ```
-#[derive(Debug, Clone, Copy, PartialEq, Eq)]
+#[derive(Clone, Copy, PartialEq, Eq, Hash)]
 pub struct Rank {
     /// The value of the branch.
     pub value: u64,
@@ -127,8 +174,31 @@ pub struct Rank {
 impl Rank {
     /// Whether this branch goes before the other: by higher value, then greater length, then lower
     /// hash.
+    #[must_use]
     pub fn outranks(&self, other: &Rank) -> bool {
         let &Rank { value, length, ref hash } = self;
         raw::station_outranks(value, length, hash, other.value, other.length, &other.hash) == 1
+    }
+}
+
+impl Ord for Rank {
+    fn cmp(&self, other: &Rank) -> Ordering {
+        self.outranks(other).cmp(&other.outranks(self))
+    }
+}
+
+impl PartialOrd for Rank {
+    fn partial_cmp(&self, other: &Rank) -> Option<Ordering> {
+        Some(self.cmp(other))
+    }
+}
+
+impl fmt::Debug for Rank {
+    fn fmt(&self, f: &mut fmt::Formatter) -> fmt::Result {
+        f.debug_struct("Rank")
+            .field("value", &self.value)
+            .field("length", &self.length)
+            .field("hash", &Digits(&self.hash))
+            .finish()
     }
 }

@@ -1,9 +1,10 @@
-use std::error::Error;
-use std::fmt;
+use core::error::Error;
+use core::fmt;
 
 /// Why a call was refused. A refused call has changed nothing.
 ///
-/// Where several refusals apply, the one with the lowest number is given.
+/// Where several of the refusals 1 to 9 apply, the one with the lowest number is given. Those from 100 on
+/// are given to what was loaded, and by no call.
 ///
 /// ```
 /// use station::{Refusal, Tables};
@@ -15,8 +16,9 @@ use std::fmt;
 #[derive(Debug, Clone, Copy, PartialEq, Eq, Hash)]
 #[non_exhaustive]
 pub enum Refusal {
-    /// 1, every call: the block slots are not 1 to 1,024, the head slots are not 2 to 64, or a
-    /// buffer's length does not fit them.
+    /// 1, every call of the archive, and so [`Tables::new`](crate::Tables::new) and
+    /// [`from_parts`](crate::Tables::from_parts): the block slots are not 1 to 1,024, the head slots are
+    /// not 2 to 64, or a buffer's length does not fit them.
     Shape = 1,
     /// 2, admit: the block's hash or its previous hash is not exactly 32 bytes.
     HashLength = 2,
@@ -34,11 +36,18 @@ pub enum Refusal {
     NotNext = 8,
     /// 9, remove: the slot's subtree has a block on the active chain.
     HoldsActive = 9,
+    /// 100, [`Tables::from_bytes`](crate::Tables::from_bytes): the bytes are not those of tables of this
+    /// layout, or not as many as their slots need.
+    Store = 100,
+    /// 101, [`Tables::from_bytes`](crate::Tables::from_bytes) and
+    /// [`from_parts`](crate::Tables::from_parts): the record does not name the last block of the active
+    /// chain, or names a block where none is active.
+    Record = 101,
 }
 
 impl Refusal {
     /// All refusals, in the order of their numbers.
-    pub const ALL: [Refusal; 9] = [
+    pub const ALL: [Refusal; 11] = [
         Refusal::Shape,
         Refusal::HashLength,
         Refusal::NoBlock,
@@ -48,14 +57,18 @@ impl Refusal {
         Refusal::Full,
         Refusal::NotNext,
         Refusal::HoldsActive,
+        Refusal::Store,
+        Refusal::Record,
     ];
 
-    /// The refusal's number, from 1 to 9.
+    /// The refusal's number.
+    #[must_use]
     pub fn number(self) -> u32 {
         self as u32
     }
 
     /// The refusal of this number.
+    #[must_use]
     pub fn from_number(number: u32) -> Option<Refusal> {
         Refusal::ALL.into_iter().find(|refusal| refusal.number() == number)
     }
@@ -76,6 +89,8 @@ impl fmt::Display for Refusal {
             Refusal::Full => "no block slot is empty",
             Refusal::NotNext => "the block's parent is not the active head",
             Refusal::HoldsActive => "the slot's subtree has a block on the active chain",
+            Refusal::Store => "what was loaded is no store of this layout and of this many slots",
+            Refusal::Record => "the record is not the last block of the active chain",
         })
     }
 }

@@ -3,6 +3,8 @@ use crate::records::{
     Anchor, Block, BlockSlot, Hash, Head, HeadSlot, NONE_REF, Request, Sequence, Status,
 };
 use crate::refusal::{Refusal, accepted};
+use alloc::{vec, vec::Vec};
+use core::fmt;
 
 /// The most block slots that tables may have. The fewest is 1.
 pub const MOST_BLOCKS: usize = 1_024;
@@ -12,7 +14,7 @@ pub const MOST_HEADS: usize = 64;
 
 /// What tables hold, as a station stores it: a buffer for each field of the n block slots and of the
 /// m head slots, and the record. [`NONE_REF`] stands for none.
-#[derive(Debug, Clone, PartialEq, Eq)]
+#[derive(Clone, PartialEq, Eq)]
 pub struct Parts {
     /// The blocks' hashes, 32 bytes a slot.
     pub hashes: Vec<u8>,
@@ -40,7 +42,7 @@ pub struct Parts {
     pub active: u32,
 }
 
-/// No slots at all, and no active head: what every call refuses.
+/// No slots at all, and no active head: what [`Tables::from_parts`] refuses.
 impl Default for Parts {
     fn default() -> Parts {
         Parts {
@@ -60,13 +62,38 @@ impl Default for Parts {
     }
 }
 
+/// The number of slots and the record alone: the buffers would fill many screens.
+impl fmt::Debug for Parts {
+    fn fmt(&self, f: &mut fmt::Formatter) -> fmt::Result {
+        f.debug_struct("Parts")
+            .field("block_slots", &self.sequences.len())
+            .field("head_slots", &self.tips.len())
+            .field("active", &self.active)
+            .finish_non_exhaustive()
+    }
+}
+
 /// A block tree and its heads.
 ///
 /// The tables own their memory and nothing but their calls writes it, so all that is proved holds of
-/// tables from [`Tables::new`], whatever is called.
-#[derive(Debug, Clone, PartialEq, Eq)]
+/// tables from [`Tables::new`], whatever is called. The buffers of tables fit one another, so none of
+/// their calls is refused by [`Refusal::Shape`].
+#[derive(Clone, PartialEq, Eq)]
 pub struct Tables {
     parts: Parts,
+}
+
+/// How much the tables hold; [`Tables::blocks`] and [`Tables::heads`] give the rest.
+impl fmt::Debug for Tables {
+    fn fmt(&self, f: &mut fmt::Formatter) -> fmt::Result {
+        f.debug_struct("Tables")
+            .field("block_slots", &self.block_slots())
+            .field("blocks", &self.blocks().count())
+            .field("head_slots", &self.head_slots())
+            .field("heads", &self.head_count())
+            .field("active_head", &self.active_head())
+            .finish_non_exhaustive()
+    }
 }
 
 /// Calls the entry point with the eleven buffers, and more.
@@ -95,7 +122,7 @@ impl Tables {
         // One slot too many is enough to be refused, so none is allocated beyond.
         let n = blocks.min(MOST_BLOCKS + 1);
         let m = heads.min(MOST_HEADS + 1);
-        let mut tables = Tables::from_parts(Parts {
+        let parts = Parts {
             hashes: vec![0; 32 * n],
             parents: vec![0; n],
             sequences: vec![0; n],
@@ -108,27 +135,47 @@ impl Tables {
             arrivals: vec![0; m],
             connected: vec![0; m],
             active: 0,
-        });
+        };
+        let mut tables = Tables { parts };
         tables.fresh()?;
         Ok(tables)
     }
 
-    /// Adopts what a station stored, of any lengths and contents. Buffers that do not fit each other
-    /// are refused by the calls. Counts and heads are believed as they stand until
+    /// Adopts what a station stored. Counts and heads are believed as they stand until
     /// [`restart`](Tables::restart) works them out: after it they are as on tables from
     /// [`new`](Tables::new) if the blocks alone are whole, that is, parents are there and one lower in
-    /// sequence, the active blocks are one line that ends at the record, no two blocks share sequence
-    /// and hash, none has more than 255 children, and empty slots are as fresh leaves them.
-    pub fn from_parts(parts: Parts) -> Tables {
-        Tables { parts }
+    /// sequence, the active blocks are one line, no two blocks share sequence and hash, none has more
+    /// than 255 children, and empty slots are as fresh leaves them.
+    ///
+    /// # Errors
+    ///
+    /// [`Refusal::Shape`] if the buffers do not fit one another, [`Refusal::Record`] if the record does
+    /// not name an active block that has no active child, or nothing where no block is active.
+    pub fn from_parts(parts: Parts) -> Result<Tables, Refusal> {
+        let tables = Tables { parts };
+        // The deadline is the call that refuses misfits alone and writes nothing.
+        tables.earliest_deadline(None)?;
+        if tables.record_fits() { Ok(tables) } else { Err(Refusal::Record) }
     }
 
-    /// What the tables hold, to be stored.
+    fn record_fits(&self) -> bool {
+        let Parts { parents, flags, active, .. } = &self.parts;
+        let is_active = |bits: u8| bits & 1 == 1;
+        if *active == NONE_REF {
+            return !flags.iter().any(|&bits| is_active(bits));
+        }
+        flags.get(*active as usize).is_some_and(|&bits| is_active(bits))
+            && !flags.iter().zip(parents).any(|(&bits, parent)| is_active(bits) && parent == active)
+    }
+
+    /// What the tables hold.
+    #[must_use]
     pub fn parts(&self) -> &Parts {
         &self.parts
     }
 
     /// What the tables held.
+    #[must_use]
     pub fn into_parts(self) -> Parts {
         self.parts
     }
@@ -137,7 +184,7 @@ impl Tables {
     ///
     /// # Errors
     ///
-    /// [`Refusal::Shape`].
+    /// [`Refusal::Shape`] alone, which tables do not meet.
     pub fn fresh(&mut self) -> Result<(), Refusal> {
         let mut held = ActiveHead { slot: self.parts.active };
         let answer = lend!(&mut self.parts, station_fresh, &mut held);
@@ -153,9 +200,8 @@ impl Tables {
     ///
     /// # Errors
     ///
-    /// [`Refusal::Shape`], [`HashLength`](Refusal::HashLength),
-    /// [`ReservedSequence`](Refusal::ReservedSequence), [`ZeroHash`](Refusal::ZeroHash),
-    /// [`Known`](Refusal::Known) or [`Full`](Refusal::Full).
+    /// [`Refusal::HashLength`], [`ReservedSequence`](Refusal::ReservedSequence),
+    /// [`ZeroHash`](Refusal::ZeroHash), [`Known`](Refusal::Known) or [`Full`](Refusal::Full).
     pub fn admit(
         &mut self,
         sequence: Sequence,
@@ -174,7 +220,7 @@ impl Tables {
     ///
     /// # Errors
     ///
-    /// [`Refusal::Shape`], [`NoBlock`](Refusal::NoBlock) or [`NotNext`](Refusal::NotNext).
+    /// [`Refusal::NoBlock`] or [`NotNext`](Refusal::NotNext).
     pub fn promote(&mut self, slot: BlockSlot) -> Result<(), Refusal> {
         let mut held = ActiveHead { slot: self.parts.active };
         let answer = lend!(&mut self.parts, station_promote, &mut held, slot.0);
@@ -186,7 +232,7 @@ impl Tables {
     ///
     /// # Errors
     ///
-    /// [`Refusal::Shape`], [`NoBlock`](Refusal::NoBlock) or [`HoldsActive`](Refusal::HoldsActive).
+    /// [`Refusal::NoBlock`] or [`HoldsActive`](Refusal::HoldsActive).
     pub fn remove(&mut self, slot: BlockSlot) -> Result<usize, Refusal> {
         accepted(lend!(&mut self.parts, station_remove, slot.0)).map(|freed| freed as usize)
     }
@@ -196,7 +242,7 @@ impl Tables {
     ///
     /// # Errors
     ///
-    /// [`Refusal::Shape`].
+    /// [`Refusal::Shape`] alone, which tables do not meet.
     ///
     /// ```
     /// use station::{HeadSlot, Request, Sequence, Tables};
@@ -223,7 +269,7 @@ impl Tables {
     ///
     /// # Errors
     ///
-    /// [`Refusal::Shape`].
+    /// [`Refusal::Shape`] alone, which tables do not meet.
     pub fn earliest_deadline(&self, retry: Option<u64>) -> Result<Option<u64>, Refusal> {
         let (given, span) = lowered(retry);
         let mut time = [0];
@@ -232,30 +278,33 @@ impl Tables {
     }
 
     /// After the station restarted: sets the counts from the blocks alone, then makes the heads anew,
-    /// which arrive `now`.
+    /// which arrive `now` and have no request and no missing hash noted.
     ///
     /// # Errors
     ///
-    /// [`Refusal::Shape`].
+    /// [`Refusal::Shape`] alone, which tables do not meet.
     pub fn restart(&mut self, now: u64) -> Result<(), Refusal> {
         let active = self.parts.active;
         accepted(lend!(&mut self.parts, station_restart, active, now)).map(drop)
     }
 }
 
-/// Questions. They refuse nothing; what a buffer is too short for reads as in an empty slot.
+/// Questions. They refuse nothing.
 impl Tables {
     /// The number of block slots.
+    #[must_use]
     pub fn block_slots(&self) -> usize {
         self.parts.sequences.len()
     }
 
     /// The number of head slots.
+    #[must_use]
     pub fn head_slots(&self) -> usize {
         self.parts.tips.len()
     }
 
     /// The slot of the active head.
+    #[must_use]
     pub fn active_head(&self) -> Option<BlockSlot> {
         found(self.parts.active).map(BlockSlot)
     }
@@ -268,6 +317,7 @@ impl Tables {
     }
 
     /// The block in this slot.
+    #[must_use]
     pub fn get(&self, slot: BlockSlot) -> Option<Block> {
         let Parts { hashes, parents, sequences, counts, flags, .. } = &self.parts;
         let mut hash = [0; 32];
@@ -286,29 +336,34 @@ impl Tables {
     }
 
     /// The lowest slot with a block of this sequence and hash.
+    #[must_use]
     pub fn find(&self, sequence: Sequence, hash: &Hash) -> Option<BlockSlot> {
         let Parts { hashes, sequences, .. } = &self.parts;
         found(raw::station_find(hashes, sequences, sequence.0, hash)).map(BlockSlot)
     }
 
     /// The lowest slot with the parent of a block of this sequence and previous hash.
+    #[must_use]
     pub fn find_parent(&self, sequence: Sequence, previous: &Hash) -> Option<BlockSlot> {
         let Parts { hashes, sequences, .. } = &self.parts;
         found(raw::station_find_parent(hashes, sequences, sequence.0, previous)).map(BlockSlot)
     }
 
     /// The lowest empty slot.
+    #[must_use]
     pub fn next_free(&self) -> Option<BlockSlot> {
         found(raw::station_next_free_index(&self.parts.sequences)).map(BlockSlot)
     }
 
     /// The count of the block in this slot.
+    #[must_use]
     pub fn head_ref_count(&self, slot: BlockSlot) -> Option<u8> {
         let Parts { sequences, counts, .. } = &self.parts;
         found(raw::station_head_ref_count(sequences, counts, slot.0)).map(|count| count as u8)
     }
 
     /// The status of the block in this slot.
+    #[must_use]
     pub fn status(&self, slot: BlockSlot) -> Option<Status> {
         let Parts { sequences, flags, .. } = &self.parts;
         found(raw::station_status(sequences, flags, slot.0)).map(|status| match status {
@@ -320,6 +375,7 @@ impl Tables {
 
     /// The slots of the block in this slot and of all above it, in slot order: those that
     /// [`remove`](Tables::remove) would free.
+    #[must_use]
     pub fn subtree(&self, root: BlockSlot) -> Vec<BlockSlot> {
         let Parts { parents, sequences, .. } = &self.parts;
         let mut list = vec![0; sequences.len()];
@@ -328,12 +384,14 @@ impl Tables {
     }
 
     /// Whether the parent walk from this slot meets the active chain.
+    #[must_use]
     pub fn walks_to_active_chain(&self, slot: BlockSlot) -> bool {
         let Parts { parents, sequences, flags, .. } = &self.parts;
         is_yes(raw::station_walks_to_active_chain(parents, sequences, flags, slot.0))
     }
 
     /// Where the parent walk from this slot ends.
+    #[must_use]
     pub fn locate_anchor(&self, slot: BlockSlot) -> Anchor {
         let Parts { parents, sequences, flags, .. } = &self.parts;
         let answer = raw::station_locate_anchor(parents, sequences, flags, slot.0);
@@ -347,6 +405,7 @@ impl Tables {
     }
 
     /// The head in this slot.
+    #[must_use]
     pub fn head(&self, slot: HeadSlot) -> Option<Head> {
         let Parts { tips, tails, missing, requested, arrivals, connected, .. } = &self.parts;
         let k = slot.0 as usize;
@@ -357,24 +416,27 @@ impl Tables {
             tip: cell(tips)?,
             anchor: cell(tails),
             connected: connected.get(k).is_some_and(|bits| bits & 1 == 1),
-            missing: std::array::from_fn(|i| missing.get(32 * k + i).copied().unwrap_or(0)),
+            missing: core::array::from_fn(|i| missing.get(32 * k + i).copied().unwrap_or(0)),
             requested: time(requested),
             arrival: time(arrivals),
         })
     }
 
     /// How many heads are in use.
+    #[must_use]
     pub fn head_count(&self) -> usize {
         raw::station_count(&self.parts.tips) as usize
     }
 
     /// Whether a head in use is stored, which is to say not connected.
+    #[must_use]
     pub fn has_stored_head(&self) -> bool {
         let Parts { tips, connected, .. } = &self.parts;
         is_yes(raw::station_has_stored_head(tips, connected))
     }
 
     /// The lowest head slot that has this block as its tip.
+    #[must_use]
     pub fn head_of(&self, tip: BlockSlot) -> Option<HeadSlot> {
         found(raw::station_slot_of_head(&self.parts.tips, tip.0)).map(HeadSlot)
     }
@@ -393,6 +455,6 @@ fn is_yes(answer: u32) -> bool {
 }
 
 /// All slots of a table with so many; [`NONE_REF`] names none.
-fn slots(number: usize) -> std::ops::Range<u32> {
+fn slots(number: usize) -> core::ops::Range<u32> {
     0..u32::try_from(number).unwrap_or(NONE_REF)
 }

@@ -1,7 +1,7 @@
 //! The declarations for C and for Rust are those of the entry points in `crates/station`, names and
-//! types; and both sides say the same of the refusals.
+//! types; and both sides say the same of the refusals, the sizes, the store and the version.
 
-use station::{MOST_BLOCKS, MOST_HEADS, Refusal};
+use station::{MOST_BLOCKS, MOST_HEADS, Refusal, Tables};
 use std::fs;
 use std::path::{Path, PathBuf};
 
@@ -16,8 +16,18 @@ fn the_entry_points() {
         assert!(c.contains(&entry.in_c()), "station.h lacks {}", entry.in_c());
     }
     assert_eq!(rust.matches("fn station_").count(), entries.len(), "in src/raw.rs");
-    let declares = |line: &&str| line.starts_with("uint") && line.contains(" station_");
+    let declares = |line: &&str| line.starts_with("STATION_CHECKED uint");
     assert_eq!(header.lines().filter(declares).count(), entries.len(), "in station.h");
+}
+
+#[test]
+fn each_entry_point_on_tables() {
+    let header = read("include/station.h");
+    for entry in entries() {
+        let name = entry.name.replace("station_", "station_tables_");
+        let name = name.replace("tables_outranks", "rank_outranks");
+        assert!(header.contains(&format!(" {name}(")), "station.h lacks {name}");
+    }
 }
 
 #[test]
@@ -36,8 +46,9 @@ fn the_refusals() {
     let header = read("include/station.h");
     for refusal in Refusal::ALL {
         let name = upper(&format!("{refusal:?}"));
-        assert!(header.contains(&format!("STATION_{name} = {}", refusal.number())), "{name}");
-        let said = format!("case STATION_{name}:\n        return \"{refusal}\";");
+        let number = format!("STATION_REFUSED_{name} = {}", refusal.number());
+        assert!(header.contains(&number), "{number}");
+        let said = format!("case STATION_REFUSED_{name}:\n        return \"{refusal}\";");
         assert!(header.contains(&said), "{said}");
     }
 }
@@ -47,6 +58,24 @@ fn the_sizes() {
     let header = read("include/station.h");
     assert!(header.contains(&format!("#define STATION_MOST_BLOCKS {MOST_BLOCKS}\n")));
     assert!(header.contains(&format!("#define STATION_MOST_HEADS {MOST_HEADS}\n")));
+}
+
+#[test]
+fn the_layout() {
+    let header = read("include/station.h");
+    let saved = Tables::new(1, 2).expect("fitting sizes").to_bytes();
+    let layout = saved[saved.len() - 9];
+    assert!(header.contains(&format!("#define STATION_LAYOUT {layout}\n")));
+}
+
+#[test]
+fn the_version() {
+    let version = env!("CARGO_PKG_VERSION");
+    let header = read("include/station.h");
+    assert!(header.contains(&format!("#define STATION_VERSION \"{version}\"\n")));
+    for (name, number) in ["MAJOR", "MINOR", "PATCH"].into_iter().zip(version.split('.')) {
+        assert!(header.contains(&format!("#define STATION_VERSION_{name} {number}\n")), "{name}");
+    }
 }
 
 /// An entry point: its name, its arguments with their types, and the type of its answer.

@@ -81,6 +81,7 @@ fn check(tables: &Tables, promoted: &HashMap<BlockSlot, [u8; 32]>) {
         assert_eq!(tables.walks_to_active_chain(head.tip), head.connected);
     }
     assert_eq!(tables.heads().count(), tables.head_count());
+    assert_eq!(Tables::from_bytes(&tables.to_bytes()).as_ref(), Ok(tables), "saved and loaded");
 }
 
 /// A chain of 1,024 blocks that arrives from its tip on.

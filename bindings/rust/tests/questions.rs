@@ -1,9 +1,11 @@
-//! The questions, on the tables of the scope's trial and on damaged ones.
+//! The questions, on the tables of the scope's trial, and what is shown of them.
 
 use station::{
-    Anchor, Block, BlockSlot, Head, HeadSlot, NONE_REF, Parts, Rank, Refusal, Request, Sequence,
-    Status, Tables,
+    Anchor, Block, BlockSlot, Head, HeadSlot, MOST_BLOCKS, MOST_HEADS, Rank, Refusal, Request,
+    Sequence, Status, Tables,
 };
+use std::cmp::Ordering;
+use std::collections::HashSet;
 
 fn hash(byte: u8) -> [u8; 32] {
     [byte; 32]
@@ -152,62 +154,39 @@ fn ranks() {
     let low_first = Rank { hash: std::array::from_fn(|i| i as u8), ..rank(1, 9, 0) };
     let low_last = Rank { hash: std::array::from_fn(|i| 31 - i as u8), ..rank(1, 9, 0) };
     assert!(low_first.outranks(&low_last));
+
+    let mut ranks = vec![low_first, low_last];
+    for (value, length) in [(0, 7), (7, 0), (7, 7), (7, 8)] {
+        ranks.extend([0, 1, 255].map(|byte| rank(value, length, byte)));
+    }
+    for (a, b) in ranks.iter().flat_map(|a| ranks.iter().map(move |b| (a, b))) {
+        assert_eq!(a.cmp(b) == Ordering::Greater, a.outranks(b), "{a:?} {b:?}");
+        assert_eq!(a.cmp(b) == Ordering::Equal, a == b, "{a:?} {b:?}");
+        assert_eq!(a.cmp(b), b.cmp(a).reverse(), "{a:?} {b:?}");
+    }
 }
 
-/// What a buffer is too short for reads as in an empty slot.
 #[test]
-fn damaged_tables() {
-    let tables = Tables::from_parts(Parts {
-        hashes: vec![7; 40],
-        parents: vec![1],
-        sequences: vec![5, 4, NONE_REF],
-        counts: vec![],
-        flags: vec![0, 0b111],
-        tips: vec![0, 9],
-        tails: vec![],
-        missing: vec![8; 33],
-        requested: vec![6],
-        arrivals: vec![],
-        connected: vec![3],
-        active: 77,
-    });
-    let mut cut = [0; 32];
-    cut[..8].fill(7);
-    let blocks: Vec<Block> = tables.blocks().map(|(_, block)| block).collect();
-    let first = Block {
-        hash: hash(7),
-        parent: Some(BlockSlot(1)),
-        sequence: Sequence(5),
-        count: 0,
-        active: false,
-    };
-    let second = Block { hash: cut, parent: None, sequence: Sequence(4), count: 0, active: true };
-    assert_eq!(blocks, [first, second]);
-    assert_eq!(tables.status(BlockSlot(1)), Some(Status::Stored));
-    assert_eq!(tables.subtree(BlockSlot(1)), [0, 1].map(BlockSlot));
-    assert_eq!(tables.locate_anchor(BlockSlot(0)), Anchor::Connection(BlockSlot(1)));
+fn answers_in_a_set() -> Result<(), Refusal> {
+    let mut tables = after_the_trial()?;
+    let blocks: HashSet<Block> = tables.blocks().map(|(_, block)| block).collect();
+    let heads: HashSet<Head> = tables.heads().collect();
+    let asked: HashSet<Option<Request>> = [tables.timer(30, None)?, None].into();
+    assert_eq!((blocks.len(), heads.len(), asked.len()), (3, 2, 2));
+    Ok(())
+}
 
-    let heads: Vec<Head> = tables.heads().collect();
-    let mut cut = [0; 32];
-    cut[0] = 8;
-    let first = Head {
-        slot: HeadSlot(0),
-        tip: BlockSlot(0),
-        anchor: None,
-        connected: true,
-        missing: hash(8),
-        requested: 6,
-        arrival: 0,
-    };
-    let second = Head {
-        slot: HeadSlot(1),
-        tip: BlockSlot(9),
-        connected: false,
-        missing: cut,
-        requested: 0,
-        ..first
-    };
-    assert_eq!(heads, [first, second]);
-    assert_eq!(tables.head_count(), 2);
-    assert_eq!(tables.active_head(), Some(BlockSlot(77)));
+#[test]
+fn what_is_shown_fits_a_screen() -> Result<(), Refusal> {
+    let tables = Tables::new(MOST_BLOCKS, MOST_HEADS)?;
+    let shown = [format!("{tables:#?}"), format!("{:#?}", tables.parts())];
+    assert!(shown.iter().all(|text| text.lines().count() < 10), "{shown:?}");
+
+    let tables = after_the_trial()?;
+    let expected = "Tables { block_slots: 4, blocks: 3, head_slots: 2, heads: 2, \
+                    active_head: Some(BlockSlot(0)), .. }";
+    assert_eq!(format!("{tables:?}"), expected);
+    let block = tables.get(BlockSlot(0)).expect("a block");
+    assert!(format!("{block:?}").starts_with(&format!("Block {{ hash: {},", "0a".repeat(32))));
+    Ok(())
 }

@@ -1,6 +1,6 @@
 //! Each refusal by its number, in its order, with the tables left as they stood.
 
-use station::{BlockSlot, MOST_BLOCKS, MOST_HEADS, Parts, Refusal, Sequence, Tables};
+use station::{BlockSlot, MOST_BLOCKS, MOST_HEADS, NONE_REF, Parts, Refusal, Sequence, Tables};
 use std::collections::HashSet;
 use std::error::Error;
 
@@ -76,15 +76,7 @@ fn shape_1_whichever_buffer_does_not_fit() {
     for (which, change) in changes.into_iter().enumerate() {
         let mut parts = whole.clone().into_parts();
         change(&mut parts);
-        let mut tables = Tables::from_parts(parts);
-        let t = &mut tables;
-        assert_eq!(refused(t, Tables::fresh), 1, "fresh: {which}");
-        assert_eq!(refused_admit(t, 6, &B, &A), 1, "admit: {which}");
-        assert_eq!(refused(t, |t| t.promote(BlockSlot(0))), 1, "promote: {which}");
-        assert_eq!(refused(t, |t| t.remove(BlockSlot(0))), 1, "remove: {which}");
-        assert_eq!(refused(t, |t| t.timer(1, None)), 1, "timer: {which}");
-        assert_eq!(refused(t, |t| t.earliest_deadline(None)), 1, "deadline: {which}");
-        assert_eq!(refused(t, |t| t.restart(1)), 1, "restart: {which}");
+        assert_eq!(Tables::from_parts(parts), Err(Refusal::Shape), "{which}");
     }
 }
 
@@ -162,10 +154,58 @@ fn holds_active_9() {
     assert_eq!(refused(&mut tables, |t| t.remove(first)), 9, "below an active block");
 }
 
+/// Slots 1 and 2 are siblings, and 1 is the active head.
+fn confirmed() -> Tables {
+    let mut tables = Tables::new(4, 2).unwrap();
+    let first = tables.admit(Sequence(5), &A, &ZERO, 1).unwrap();
+    let second = tables.admit(Sequence(6), &A, &A, 2).unwrap();
+    tables.admit(Sequence(6), &B, &A, 3).unwrap();
+    tables.promote(first).unwrap();
+    tables.promote(second).unwrap();
+    tables
+}
+
+#[test]
+fn store_100() {
+    let saved = confirmed().to_bytes();
+    assert_eq!(Tables::from_bytes(&saved), Ok(confirmed()));
+    assert_eq!(Tables::from_bytes(&[]), Err(Refusal::Store));
+    assert_eq!(Tables::from_bytes(&vec![0; saved.len()]), Err(Refusal::Store));
+    assert_eq!(Tables::from_bytes(&saved[1..]), Err(Refusal::Store));
+    assert_eq!(Tables::from_bytes(&saved[8..]), Err(Refusal::Store));
+    assert_eq!(Tables::from_bytes(&[&[0; 8], &saved[..]].concat()), Err(Refusal::Store));
+    for byte in saved.len() - 16..saved.len() {
+        let mut other = saved.clone();
+        other[byte] ^= 0x80;
+        assert_eq!(Tables::from_bytes(&other), Err(Refusal::Store), "byte {byte} of the mark");
+    }
+}
+
+#[test]
+fn record_101() {
+    for (active, why) in
+        [(NONE_REF, "lost"), (0, "old"), (2, "not active"), (3, "empty"), (4, "no slot")]
+    {
+        let mut parts = confirmed().into_parts();
+        parts.active = active;
+        assert_eq!(Tables::from_parts(parts), Err(Refusal::Record), "{why}");
+    }
+    let mut parts = Tables::new(4, 2).unwrap().into_parts();
+    parts.active = 0;
+    assert_eq!(Tables::from_parts(parts), Err(Refusal::Record), "no block is active");
+
+    let mut tables = Tables::new(4, 2).unwrap();
+    tables.admit(Sequence(5), &A, &ZERO, 1).unwrap();
+    let second = tables.admit(Sequence(6), &A, &A, 2).unwrap();
+    tables.promote(second).unwrap();
+    let parts = Parts { active: NONE_REF, ..tables.into_parts() };
+    assert_eq!(Tables::from_parts(parts), Err(Refusal::Record), "lost, the parent not active");
+}
+
 #[test]
 fn numbers_and_words() {
     let numbers: Vec<u32> = Refusal::ALL.into_iter().map(Refusal::number).collect();
-    assert_eq!(numbers, (1..=9).collect::<Vec<u32>>());
+    assert_eq!(numbers, (1..=9).chain(100..=101).collect::<Vec<u32>>());
     for refusal in Refusal::ALL {
         assert_eq!(Refusal::from_number(refusal.number()), Some(refusal));
     }
@@ -173,7 +213,7 @@ fn numbers_and_words() {
     assert_eq!(Refusal::from_number(10), None);
 
     let words: HashSet<String> = Refusal::ALL.iter().map(Refusal::to_string).collect();
-    assert_eq!(words.len(), 9);
+    assert_eq!(words.len(), 11);
     let error: Box<dyn Error> = Refusal::Full.into();
     assert_eq!(error.to_string(), "no block slot is empty");
 }

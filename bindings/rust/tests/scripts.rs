@@ -1,7 +1,7 @@
 //! The trial's scripts in `examples/`, run on [`Tables`]: the answers and the tables at the end are
 //! those that the trial program prints. `unread` is about that program's lines alone.
 
-use station::{BlockSlot, Hash, Parts, Refusal, Sequence, Tables};
+use station::{BlockSlot, Hash, Refusal, Sequence, Tables};
 use std::fmt::Display;
 use std::path::Path;
 use std::{env, fs};
@@ -23,7 +23,7 @@ fn the_scripts() {
 }
 
 fn printed(script: &str) -> String {
-    let mut tables = Tables::from_parts(Parts::default());
+    let mut tables = None;
     let mut out = String::new();
     for line in script.lines() {
         match answer(&mut tables, line) {
@@ -31,6 +31,7 @@ fn printed(script: &str) -> String {
             Err(refusal) => out += &format!("E {}\n", refusal.number()),
         }
     }
+    let Some(tables) = tables else { return out };
     for (slot, block) in tables.blocks() {
         let parent = or_dash(block.parent);
         let active = u8::from(block.active);
@@ -43,13 +44,15 @@ fn printed(script: &str) -> String {
     out
 }
 
-fn answer(tables: &mut Tables, line: &str) -> Result<String, Refusal> {
+/// Before the first accepted N each call is refused by 1.
+fn answer(tables: &mut Option<Tables>, line: &str) -> Result<String, Refusal> {
     let words: Vec<&str> = line.split(' ').collect();
+    if let ["N", n, m] = words[..] {
+        *tables = Some(Tables::new(number(n), number(m))?);
+        return Ok(String::new());
+    }
+    let tables = tables.as_mut().ok_or(Refusal::Shape)?;
     Ok(match words[..] {
-        ["N", n, m] => {
-            *tables = Tables::new(number(n), number(m))?;
-            String::new()
-        }
         ["A", sequence, hash, previous, arrival] => {
             let sequence = Sequence(number(sequence));
             let slot = tables.admit(sequence, &bytes(hash), &bytes(previous), number(arrival))?;

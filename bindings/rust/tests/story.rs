@@ -17,8 +17,8 @@ fn forked(confirmed: bool) -> Result<(Tables, BlockSlot), Refusal> {
 }
 
 /// The same tables as storage gives them back.
-fn without_counts(tables: Tables) -> Tables {
-    let mut parts = tables.into_parts();
+fn without_counts(tables: &Tables) -> Result<Tables, Refusal> {
+    let mut parts = Tables::from_bytes(&tables.to_bytes())?.into_parts();
     parts.counts.fill(0);
     Tables::from_parts(parts)
 }
@@ -26,7 +26,7 @@ fn without_counts(tables: Tables) -> Tables {
 #[test]
 fn a_shared_block_outlives_one_of_its_branches() -> Result<(), Refusal> {
     let (tables, pass) = forked(false)?;
-    let mut tables = without_counts(tables);
+    let mut tables = without_counts(&tables)?;
     tables.restart(10)?;
     let third = tables.admit(Sequence(7), &[0x0d; 32], &[0x0e; 32], 20)?;
 
@@ -41,7 +41,7 @@ fn a_shared_block_outlives_one_of_its_branches() -> Result<(), Refusal> {
 #[test]
 fn a_confirmed_pass_outlives_all_branches() -> Result<(), Refusal> {
     let (tables, pass) = forked(true)?;
-    let mut tables = without_counts(tables);
+    let mut tables = without_counts(&tables)?;
     tables.restart(10)?;
     tables.admit(Sequence(7), &[0x0d; 32], &[0x0e; 32], 20)?;
     tables.admit(Sequence(8), &[0x0f; 32], &[0x10; 32], 30)?;
@@ -58,11 +58,11 @@ fn a_confirmed_pass_outlives_all_branches() -> Result<(), Refusal> {
 fn restart_gives_back_counts_and_heads() -> Result<(), Refusal> {
     for confirmed in [false, true] {
         let (mut tables, _) = forked(confirmed)?;
-        let mut lost = without_counts(tables.clone()).into_parts();
+        let mut lost = without_counts(&tables)?.into_parts();
         lost.tips.reverse();
         lost.tails.fill(3);
         lost.connected.fill(7);
-        let mut lost = Tables::from_parts(lost);
+        let mut lost = Tables::from_parts(lost)?;
         lost.restart(10)?;
         tables.restart(10)?;
         assert_eq!(lost, tables);
@@ -74,7 +74,7 @@ fn restart_gives_back_counts_and_heads() -> Result<(), Refusal> {
 #[test]
 fn without_restart_the_fault_is_there() -> Result<(), Refusal> {
     let (tables, pass) = forked(false)?;
-    let mut tables = without_counts(tables);
+    let mut tables = without_counts(&tables)?;
     tables.admit(Sequence(7), &[0x0d; 32], &[0x0e; 32], 20)?;
     assert_eq!(tables.get(pass), None);
     Ok(())
@@ -111,7 +111,7 @@ fn the_active_head_is_never_evicted_by_a_restart_with_fewer_heads() -> Result<()
     parts.requested.truncate(2);
     parts.arrivals.truncate(2);
     parts.connected.truncate(2);
-    let mut tables = Tables::from_parts(parts);
+    let mut tables = Tables::from_parts(parts)?;
     tables.restart(10)?;
     assert_eq!(tips(&tables), [0, 2].map(BlockSlot));
     assert_eq!(tables.get(BlockSlot(1)), None);

@@ -1,8 +1,8 @@
--- What a loop over the tables keeps: the lengths of all fields, and what its first turns have made.
+-- What a loop over the tables keeps: the lengths of the fields that it may write, and what its first turns have made.
 use mathlib.Core.Path.{_≡_, ap}
 use Prim.Native.Nat.{ℕ, _≤_}
 use lib.ListN.{length}
-use Rattle.rules.specs.Records.{Blocks, Heads, Tables}
+use Rattle.rules.specs.Records.{Blocks, Heads, Tables, Caches}
 
 pub record SameBlocks (b was : Blocks) : Type 0 where
   pub hashes : length (b .hashes) ≡ length (was .hashes)
@@ -23,11 +23,17 @@ pub record SameLengths (t was : Tables) : Type 0 where
   pub blocks : SameBlocks (t .blocks) (was .blocks)
   pub heads : SameHeads (t .heads) (was .heads)
 
--- k of m turns are done, which began with `was` and have made `made`
-pub record Turned (k m : ℕ) (t was made : Tables) : Type 0 where
+pub record SameCaches (c was : Caches) : Type 0 where
+  pub tails : length (c .tails) ≡ length (was .tails)
+  pub missing : length (c .missing) ≡ length (was .missing)
+  pub requested : length (c .requested) ≡ length (was .requested)
+  pub connected : length (c .connected) ≡ length (was .connected)
+
+-- k of m turns are done: the lengths are what they were, and `Done` says what has been made
+pub record Turned (k m : ℕ) (Lengths Done : Type 0) : Type 0 where
   pub within : k ≤ m
-  pub lengths : SameLengths t was
-  pub done : t ≡ made
+  pub lengths : Lengths
+  pub done : Done
 
 -- of tables whose blocks stay
 pub on-heads : {b : Blocks} {h g : Heads} → h ≡ g → _≡_ {A = Tables} (record { blocks = b; heads = h }) (record { blocks = b; heads = g })

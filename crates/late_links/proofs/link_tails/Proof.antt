@@ -7,14 +7,15 @@ use Rattle.rules.specs.Records.{tablesOf}
 use Rattle.rules.specs.Admission.{linkLate, linkTails}
 use Rattle.rules.proofs.Search.{in-order-none, in-order-next}
 use Rattle.rules.proofs.Places.{the}
-use Rattle.rules.proofs.Loops.{Turned}
+use Rattle.rules.proofs.Loops.{SameLengths, Turned}
 use Rattle.late_links.proofs.link_tails.Statement.{statement}
 use Rattle.late_links.proofs.link_tails.Tie as tie
 
 abbrev Inv-loop : tie.InvT-loop
 Inv-loop hashes parents₀ sequences counts₀ flags tips₀ tails₀ missing₀ requested₀ arrivals₀ connected₀ block sequence hash m k₀ parents counts tips tails missing requested arrivals connected k =
     let was = tablesOf hashes parents₀ sequences counts₀ flags tips₀ tails₀ missing₀ requested₀ arrivals₀ connected₀ in
-    Turned k m (tablesOf hashes parents sequences counts flags tips tails missing requested arrivals connected) was (inOrder (linkLate (block .0) hash (sequence .0)) k was)
+    let t = tablesOf hashes parents sequences counts flags tips tails missing requested arrivals connected in
+    Turned k m (SameLengths t was) (t ≡ inOrder (linkLate (block .0) hash (sequence .0)) k was)
 
 abbrev μ-loop : tie.MeasureT-loop
 μ-loop hashes parents₀ sequences counts₀ flags tips₀ tails₀ missing₀ requested₀ arrivals₀ connected₀ block sequence hash m k₀ parents counts tips tails missing requested arrivals connected k = m - k

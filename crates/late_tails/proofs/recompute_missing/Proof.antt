@@ -8,7 +8,7 @@ use Rattle.rules.specs.Records.{Tables, tablesOf, withHeads}
 use Rattle.rules.specs.Admission.{recomputeMissed, recomputeMissing}
 use Rattle.rules.proofs.Search.{in-order-none, in-order-next}
 use Rattle.rules.proofs.Places.{the}
-use Rattle.rules.proofs.Loops.{Turned, on-heads}
+use Rattle.rules.proofs.Loops.{SameLengths, Turned, on-heads}
 use Rattle.late_tails.proofs.recompute_missing.Statement.{statement}
 use Rattle.late_tails.proofs.recompute_missing.Tie as tie
 
@@ -18,7 +18,8 @@ recomputedBelow k block hash previous t = withHeads t (inOrder (recomputeMissed 
 abbrev Inv-loop : tie.InvT-loop
 Inv-loop hashes parents sequences counts flags tips tails₀ missing₀ requested₀ arrivals connected₀ block previous hash m k₀ tails missing requested connected k =
     let was = tablesOf hashes parents sequences counts flags tips tails₀ missing₀ requested₀ arrivals connected₀ in
-    Turned k m (tablesOf hashes parents sequences counts flags tips tails missing requested arrivals connected) was (recomputedBelow k (block .0) hash previous was)
+    let t = tablesOf hashes parents sequences counts flags tips tails missing requested arrivals connected in
+    Turned k m (SameLengths t was) (t ≡ recomputedBelow k (block .0) hash previous was)
 
 abbrev μ-loop : tie.MeasureT-loop
 μ-loop hashes parents sequences counts flags tips tails₀ missing₀ requested₀ arrivals connected₀ block previous hash m k₀ tails missing requested connected k = m - k

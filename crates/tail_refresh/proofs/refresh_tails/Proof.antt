@@ -7,7 +7,7 @@ use Rattle.rules.specs.Records.{Tables, tablesOf, withHeads}
 use Rattle.rules.specs.Admission.{refreshOutgrown, refreshTails}
 use Rattle.rules.proofs.Search.{in-order-none, in-order-next}
 use Rattle.rules.proofs.Places.{the}
-use Rattle.rules.proofs.Loops.{Turned, on-heads}
+use Rattle.rules.proofs.Loops.{SameLengths, Turned, on-heads}
 use Rattle.tail_refresh.proofs.refresh_tails.Statement.{statement}
 use Rattle.tail_refresh.proofs.refresh_tails.Tie as tie
 
@@ -17,7 +17,8 @@ refreshedBelow k t = withHeads t (inOrder (refreshOutgrown (t .blocks)) k (t .he
 abbrev Inv-loop : tie.InvT-loop
 Inv-loop hashes parents sequences counts flags tips tails₀ missing₀ requested₀ arrivals connected₀ m k₀ tails missing requested connected k =
     let was = tablesOf hashes parents sequences counts flags tips tails₀ missing₀ requested₀ arrivals connected₀ in
-    Turned k m (tablesOf hashes parents sequences counts flags tips tails missing requested arrivals connected) was (refreshedBelow k was)
+    let t = tablesOf hashes parents sequences counts flags tips tails missing requested arrivals connected in
+    Turned k m (SameLengths t was) (t ≡ refreshedBelow k was)
 
 abbrev μ-loop : tie.MeasureT-loop
 μ-loop hashes parents sequences counts flags tips tails₀ missing₀ requested₀ arrivals connected₀ m k₀ tails missing requested connected k = m - k

@@ -1,23 +1,22 @@
 -- What is left to visit from the present block.
 use native.Mathlib.Omega.{arith}
-use Prim.Native.Nat.{ℕ, suc, _≤_, _-_, _+_}
+use Prim.Native.Nat.{ℕ, suc, _-_, _+_}
 use native.Mathlib.Nat.{sub-zero}
 use mathlib.Core.Path.{_≡_, sym, ap, _∙_}
-use lib.ListN.{length}
 use Rattle.rules.specs.Records.{blocksOf}
 use Rattle.rules.specs.Eviction.{evictFrom}
 use Rattle.rules.specs.Answers.{slotFound}
 use Rattle.rules.proofs.Places.{the}
+use Rattle.rules.proofs.Loops.{SameBlocks, Turned}
 use Rattle.eviction.proofs.Walk.{walk-spent, walk-stops, walk-goes}
 use Rattle.eviction.proofs.evict_from.Statement.{statement}
 use Rattle.eviction.proofs.evict_from.Tie as tie
 
 abbrev Inv-loop : tie.InvT-loop
 Inv-loop hashes₀ parents₀ sequences₀ counts₀ flags₀ n current₀ visits₀ hashes parents sequences counts flags current visits =
-    (visits ≤ n) × (((length hashes ≡ length hashes₀) × ((length parents ≡ length parents₀) × ((length sequences ≡ length sequences₀) ×
-    ((length counts ≡ length counts₀) × (length flags ≡ length flags₀))))) ×
-    (evictFrom n (blocksOf hashes₀ parents₀ sequences₀ counts₀ flags₀) current₀
-    ≡ evictFrom (n - visits) (blocksOf hashes parents sequences counts flags) current))
+    let was = blocksOf hashes₀ parents₀ sequences₀ counts₀ flags₀ in
+    let b = blocksOf hashes parents sequences counts flags in
+    Turned visits n (SameBlocks b was) (evictFrom n was current₀ ≡ evictFrom (n - visits) b current)
 
 abbrev μ-loop : tie.MeasureT-loop
 μ-loop hashes₀ parents₀ sequences₀ counts₀ flags₀ n current₀ visits₀ hashes parents sequences counts flags current visits = n - visits
@@ -29,7 +28,7 @@ slots-requires : tie.Need-slots-requires Inv-loop μ-loop
 slots-requires c κs = tt
 
 loop-holds : tie.Need-loop-holds Inv-loop μ-loop
-loop-holds c = (omega arith, (omega arith, rw sub-zero))
+loop-holds c = record { within = omega arith; lengths = omega arith; done = rw sub-zero }
 
 visit-requires : tie.Need-visit-requires Inv-loop μ-loop
 visit-requires c κs = tt
@@ -40,27 +39,27 @@ enum-told c = omega arith
 same-length : tie.Need-same-length Inv-loop μ-loop
 same-length c =
     let p : tie.After-visit Inv-loop μ-loop = search in
-    omega (arith, p .visit .kept, to-loop p .loop .inv)
+    omega (arith, p .visit .kept, to-loop p .loop .inv .lengths)
 
 same-length-2 : tie.Need-same-length-2 Inv-loop μ-loop
 same-length-2 c =
     let p : tie.After-visit Inv-loop μ-loop = search in
-    omega (arith, p .visit .kept, to-loop p .loop .inv)
+    omega (arith, p .visit .kept, to-loop p .loop .inv .lengths)
 
 same-length-3 : tie.Need-same-length-3 Inv-loop μ-loop
 same-length-3 c =
     let p : tie.After-visit Inv-loop μ-loop = search in
-    omega (arith, p .visit .kept, to-loop p .loop .inv)
+    omega (arith, p .visit .kept, to-loop p .loop .inv .lengths)
 
 same-length-4 : tie.Need-same-length-4 Inv-loop μ-loop
 same-length-4 c =
     let p : tie.After-visit Inv-loop μ-loop = search in
-    omega (arith, p .visit .kept, to-loop p .loop .inv)
+    omega (arith, p .visit .kept, to-loop p .loop .inv .lengths)
 
 same-length-5 : tie.Need-same-length-5 Inv-loop μ-loop
 same-length-5 c =
     let p : tie.After-visit Inv-loop μ-loop = search in
-    omega (arith, p .visit .kept, to-loop p .loop .inv)
+    omega (arith, p .visit .kept, to-loop p .loop .inv .lengths)
 
 returns : tie.Need-returns Inv-loop μ-loop
 returns c =
@@ -71,7 +70,7 @@ returns c =
     let b = blocksOf (l .hashes) (l .parents) (l .sequences) (l .counts) (l .flags) in
     let s = walk-stops (slots .result - l .visits) b (l .current) (omega (arith, loop-test .taken))
     (sym (visit .ensures .0) ∙ ap slotFound (c .enum-told .given .1)) in
-    rw (← slots .ensures) (visit .ensures .1 ∙ sym (l .inv .1 .1 ∙ s))
+    rw (← slots .ensures) (visit .ensures .1 ∙ sym (l .inv .done ∙ s))
 
 enum-known-parent : tie.Need-enum-known-parent Inv-loop μ-loop
 enum-known-parent c = omega arith
@@ -95,35 +94,34 @@ loop-again c =
     let b = blocksOf (l .hashes) (l .parents) (l .sequences) (l .counts) (l .flags) in
     let k : ℕ = slots .result - (l .visits + 1) in
     let e : slots .result - l .visits ≡ suc k = omega (arith, loop-test .taken) in
-    let g = walk-goes k b (l .current) _ (sym (v .ensures .0) ∙ ap slotFound (parent .given .1)) in (
-      omega (arith, loop-test .taken),
-      (
-        omega (arith, v .kept, l .inv),
-        l .inv .1 .1 ∙ rw e (g ∙ rw (← v .ensures .1)),
-      ),
-    )
+    let g = walk-goes k b (l .current) _ (sym (v .ensures .0) ∙ ap slotFound (parent .given .1)) in
+    record {
+      within = omega (arith, loop-test .taken);
+      lengths = omega (arith, v .kept, l .inv .lengths);
+      done = l .inv .done ∙ rw e (g ∙ rw (← v .ensures .1));
+    }
 
 same-length-6 : tie.Need-same-length-6 Inv-loop μ-loop
-same-length-6 c = omega arith
+same-length-6 c = omega (arith, c .before .loop .inv .lengths)
 
 same-length-7 : tie.Need-same-length-7 Inv-loop μ-loop
-same-length-7 c = omega arith
+same-length-7 c = omega (arith, c .before .loop .inv .lengths)
 
 same-length-8 : tie.Need-same-length-8 Inv-loop μ-loop
-same-length-8 c = omega arith
+same-length-8 c = omega (arith, c .before .loop .inv .lengths)
 
 same-length-9 : tie.Need-same-length-9 Inv-loop μ-loop
-same-length-9 c = omega arith
+same-length-9 c = omega (arith, c .before .loop .inv .lengths)
 
 same-length-10 : tie.Need-same-length-10 Inv-loop μ-loop
-same-length-10 c = omega arith
+same-length-10 c = omega (arith, c .before .loop .inv .lengths)
 
 returns-2 : tie.Need-returns-2 Inv-loop μ-loop
 returns-2 c =
     let l = c .before .loop in
     let b = blocksOf (l .hashes) (l .parents) (l .sequences) (l .counts) (l .flags) in
     rw (← c .before .before .slots .ensures)
-    (sym (l .inv .1 .1 ∙ walk-spent (c .before .before .slots .result - l .visits) b (l .current) (omega arith)))
+    (sym (l .inv .done ∙ walk-spent (c .before .before .slots .result - l .visits) b (l .current) (omega arith)))
 
 pub evict-from-spec : {M : Type 1} → statement M
 evict-from-spec =

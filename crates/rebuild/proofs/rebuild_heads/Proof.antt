@@ -1,12 +1,14 @@
 -- The slots before `i` are done, and the bytes name the parents.
 use native.Mathlib.Omega.{arith}
-use Prim.Native.Nat.{ℕ, _≤_, _+_, _-_}
+use Prim.Native.Nat.{ℕ, _+_, _-_}
 use mathlib.Core.Path.{_≡_, sym, ap, _∙_}
+use mathlib.Core.List.{List}
 use lib.ListN.{length}
 use Rattle.rules.specs.Common.{inOrder}
 use Rattle.rules.specs.Records.{Tables, tablesOf, slotsOf}
 use Rattle.rules.specs.Rebuild.{rebuildAt, rebuildHeads}
 use Rattle.rules.proofs.Search.{in-order-none, in-order-next}
+use Rattle.rules.proofs.Loops.{SameLengths, Turned}
 use Rattle.named_parents.specs.Named.{namedParents}
 use Rattle.rebuild.proofs.rebuild_heads.Statement.{statement}
 use Rattle.rebuild.proofs.rebuild_heads.Tie as tie
@@ -22,18 +24,22 @@ ends : (t u : Tables) (arrival active i n : ℕ)
 unfolding rebuildHeads
 ends t u arrival active i n e d f = rw (← e, ← d) f
 
+-- the lengths, of the bytes too
+record Lengths (t was : Tables) (named named₀ : List ℕ) : Type 0 where
+  tables : SameLengths t was
+  bytes : length named ≡ length named₀
+
+-- the tables as they are to be, and in the bytes the parents
+record Made (t made : Tables) (named : List ℕ) (room : ℕ) : Type 0 where
+  tables : t ≡ made
+  bytes : named ≡ namedParents (t .blocks .parents) (t .blocks .sequences) room
+
 abbrev Inv-loop : tie.InvT-loop
 Inv-loop hashes₀ parents₀ sequences₀ counts₀ flags₀ tips₀ tails₀ missing₀ requested₀ arrivals₀ connected₀ named₀ arrival active n i₀
     hashes parents sequences counts flags tips tails missing requested arrivals connected named i =
-    (i ≤ n)
-    × (((length named ≡ length named₀) × ((length hashes ≡ length hashes₀) × ((length parents ≡ length parents₀) ×
-    ((length sequences ≡ length sequences₀) × ((length counts ≡ length counts₀) × ((length flags ≡ length flags₀) ×
-    ((length tips ≡ length tips₀) × ((length tails ≡ length tails₀) × ((length missing ≡ length missing₀) ×
-    ((length requested ≡ length requested₀) × ((length arrivals ≡ length arrivals₀) × (length connected ≡ length connected₀))))))))))))
-    × ((tablesOf hashes parents sequences counts flags tips tails missing requested arrivals connected
-    ≡ inOrder (rebuildAt arrival (active .0)) i
-    (tablesOf hashes₀ parents₀ sequences₀ counts₀ flags₀ tips₀ tails₀ missing₀ requested₀ arrivals₀ connected₀))
-    × (named ≡ namedParents parents sequences (length named₀))))
+    let was = tablesOf hashes₀ parents₀ sequences₀ counts₀ flags₀ tips₀ tails₀ missing₀ requested₀ arrivals₀ connected₀ in
+    let t = tablesOf hashes parents sequences counts flags tips tails missing requested arrivals connected in
+    Turned i n (Lengths t was named named₀) (Made t (inOrder (rebuildAt arrival (active .0)) i was) named (length named₀))
 
 abbrev μ-loop : tie.MeasureT-loop
 μ-loop hashes₀ parents₀ sequences₀ counts₀ flags₀ tips₀ tails₀ missing₀ requested₀ arrivals₀ connected₀ named₀ arrival active n i₀
@@ -59,7 +65,11 @@ slots-requires c κs = tt
 loop-holds : tie.Need-loop-holds Inv-loop μ-loop
 loop-holds c =
     let m = let p : tie.After-name-parents Inv-loop μ-loop = search in p .name-parents in
-    (omega arith, (omega arith, (sym (in-order-none _ _), m .ensures ∙ ap (namedParents _ _) (sym (m .kept .1 .1 .0)))))
+    record {
+      within = omega arith;
+      lengths = omega arith;
+      done = record { tables = sym (in-order-none _ _); bytes = m .ensures ∙ ap (namedParents _ _) (sym (m .kept .1 .1 .0)) };
+    }
 
 rebuild-at-requires : tie.Need-rebuild-at-requires Inv-loop μ-loop
 rebuild-at-requires c κs = tt
@@ -80,56 +90,61 @@ loop-again : tie.Need-loop-again Inv-loop μ-loop
 loop-again c =
     let t : tie.After-rebuild-at Inv-loop μ-loop = search in
     let u = t .rebuild-at in
-    let l = to-loop t .loop in
-    let less = to-loop-test t .loop-test .taken in
-    let e = l .inv .1 .0 .0 in
-    let v = u .ensures (l .inv .1 .1 .1 ∙ ap (namedParents _ _) (sym e)) in (
-      omega (arith, less),
-      (omega (arith, u .kept, l .inv), (v .0 ∙ turn _ _ _ _ _ (l .inv .1 .1 .0), v .1 ∙ ap (namedParents _ _) e)),
-    )
+    let l = to-loop t .loop .inv in
+    record {
+      within = omega (arith, to-loop-test t .loop-test .taken);
+      lengths = record {
+        tables = record { blocks = omega (arith, u .kept, l .lengths); heads = omega (arith, u .kept, l .lengths) };
+        bytes = omega (arith, u .kept, l .lengths);
+      };
+      done =
+          let e = l .lengths .bytes in
+          let v = u .ensures (l .done .bytes ∙ ap (namedParents _ _) (sym e)) in
+          record { tables = v .0 ∙ turn _ _ _ _ _ (l .done .tables); bytes = v .1 ∙ ap (namedParents _ _) e };
+    }
 
 same-length : tie.Need-same-length Inv-loop μ-loop
-same-length c = omega arith
+same-length c = omega (arith, c .before .loop .inv .lengths)
 
 same-length-2 : tie.Need-same-length-2 Inv-loop μ-loop
-same-length-2 c = omega arith
+same-length-2 c = omega (arith, c .before .loop .inv .lengths)
 
 same-length-3 : tie.Need-same-length-3 Inv-loop μ-loop
-same-length-3 c = omega arith
+same-length-3 c = omega (arith, c .before .loop .inv .lengths)
 
 same-length-4 : tie.Need-same-length-4 Inv-loop μ-loop
-same-length-4 c = omega arith
+same-length-4 c = omega (arith, c .before .loop .inv .lengths)
 
 same-length-5 : tie.Need-same-length-5 Inv-loop μ-loop
-same-length-5 c = omega arith
+same-length-5 c = omega (arith, c .before .loop .inv .lengths)
 
 same-length-6 : tie.Need-same-length-6 Inv-loop μ-loop
-same-length-6 c = omega arith
+same-length-6 c = omega (arith, c .before .loop .inv .lengths)
 
 same-length-7 : tie.Need-same-length-7 Inv-loop μ-loop
-same-length-7 c = omega arith
+same-length-7 c = omega (arith, c .before .loop .inv .lengths)
 
 same-length-8 : tie.Need-same-length-8 Inv-loop μ-loop
-same-length-8 c = omega arith
+same-length-8 c = omega (arith, c .before .loop .inv .lengths)
 
 same-length-9 : tie.Need-same-length-9 Inv-loop μ-loop
-same-length-9 c = omega arith
+same-length-9 c = omega (arith, c .before .loop .inv .lengths)
 
 same-length-10 : tie.Need-same-length-10 Inv-loop μ-loop
-same-length-10 c = omega arith
+same-length-10 c = omega (arith, c .before .loop .inv .lengths)
 
 same-length-11 : tie.Need-same-length-11 Inv-loop μ-loop
-same-length-11 c = omega arith
+same-length-11 c = omega (arith, c .before .loop .inv .lengths)
 
 same-length-12 : tie.Need-same-length-12 Inv-loop μ-loop
-same-length-12 c = omega arith
+same-length-12 c = omega (arith, c .before .loop .inv .lengths)
 
 returns : tie.Need-returns Inv-loop μ-loop
 returns c =
     let l = c .before .loop in
     let slots = c .before .before .slots in
     let e : l .i ≡ slots .result = omega arith in
-    ends _ _ _ _ _ _ (slots .ensures) e (l .inv .1 .1 .0)
+    ends _ _ _ _ _ _ (slots .ensures) e (l .inv .done .tables)
 
 pub rebuild-heads-spec : {M : Type 1} → statement M
 rebuild-heads-spec =

@@ -1,9 +1,9 @@
 -- The slots before `i` of the subtree are listed, and what is remembered is right.
 use native.Mathlib.Omega.{arith}
-use Prim.Native.Nat.{_≤_, _<_, _-_, _+_}
-use mathlib.Core.Path.{_≡_, refl, sym, _∙_}
+use Prim.Native.Nat.{ℕ, _≤_, _<_, _-_, _+_}
+use mathlib.Core.Path.{_≡_, sym, _∙_}
 use mathlib.Core.Logic.{⊎-elim}
-use mathlib.Core.List.{[], _∷_, _++_}
+use mathlib.Core.List.{List, [], _∷_, _++_}
 use native.Mathlib.Nat.{zero-add}
 use lib.ListN.{length, length-append}
 use lib.Seq.{sets}
@@ -12,17 +12,27 @@ use Rattle.rules.specs.Records.{slotsOf}
 use Rattle.rules.specs.BlockTable.{inSubtree, markSubtree}
 use Rattle.rules.proofs.Search.{all-none, all-passes, all-fails}
 use Rattle.rules.proofs.Cells.{sets-append}
+use Rattle.rules.proofs.Loops.{Turned}
 use Rattle.subtree.specs.Known.{Right}
 use Rattle.subtree.proofs.mark_known.Statement.{statement}
 use Rattle.subtree.proofs.mark_known.Tie as tie
 
+record Lengths (known known₀ out out₀ : List ℕ) : Type 0 where
+  bytes : length known ≡ length known₀
+  list : length out ≡ length out₀
+
+record Listed (parents sequences : List ℕ) (root : ℕ) (known out out₀ : List ℕ) (count i : ℕ) : Type 0 where
+  right : Right parents sequences root known
+  many : count ≡ length (allBelow (inSubtree parents sequences root) i)
+  slots : out ≡ sets out₀ 0 (allBelow (inSubtree parents sequences root) i)
+
+record Made (parents sequences : List ℕ) (root : ℕ) (known known₀ out out₀ : List ℕ) (count i : ℕ) : Type 0 where
+  few : count ≤ i
+  listed : Right parents sequences root known₀ → Listed parents sequences root known out out₀ count i
+
 abbrev Inv-loop : tie.InvT-loop
 Inv-loop parents sequences root known₀ out₀ n count₀ i₀ known out count i =
-    (i ≤ n) × ((count ≤ i) × ((length known ≡ length known₀) × ((length out ≡ length out₀)
-    × (Right parents sequences (root .0) known₀
-    → Right parents sequences (root .0) known
-    × ((count ≡ length (allBelow (inSubtree parents sequences (root .0)) i)) ×
-    (out ≡ sets out₀ 0 (allBelow (inSubtree parents sequences (root .0)) i)))))))
+    Turned i n (Lengths known known₀ out out₀) (Made parents sequences (root .0) known known₀ out out₀ count i)
 
 abbrev μ-loop : tie.MeasureT-loop
 μ-loop parents sequences root known₀ out₀ n count₀ i₀ known out count i = n - i
@@ -31,7 +41,11 @@ slots-requires : tie.Need-slots-requires Inv-loop μ-loop
 slots-requires c κs = tt
 
 loop-holds : tie.Need-loop-holds Inv-loop μ-loop
-loop-holds c = (omega arith, (omega arith, (refl, (refl, λ r. (r, (rw all-none, rw all-none))))))
+loop-holds c = record {
+  within = omega arith;
+  lengths = omega arith;
+  done = record { few = omega arith; listed = λ r. record { right = r; many = rw all-none; slots = rw all-none } };
+}
 
 is-under-requires : tie.Need-is-under-requires Inv-loop μ-loop
 is-under-requires c κs = tt
@@ -57,46 +71,35 @@ loop-again c =
     let test = inSubtree (a .parents .now) (a .sequences .now) (a .root .0) in
     let h : l .i < slotsOf (a .sequences .now) = omega (arith, slots .ensures) in
     ⊎-elim
-    (λ w. (
-      omega arith,
-      (
-        omega (arith, w .6),
-        (
-          u .kept .1 .1 .1 .0 ∙ l .inv .1 .1 .0,
-          (
-            rw (w .5) (w .2 .kept .0 ∙ l .inv .1 .1 .1 .0),
-            λ r.
-                let g = l .inv .1 .1 .1 .1 r in
-                let v = u .ensures (g .0) h in
-                let e : allBelow test (l .i + 1) ≡ allBelow test (l .i) ++ l .i ∷ [] = all-passes test (l .i) (sym (v .0) ∙ w .0 .taken) in
-                let z : 0 + length (allBelow test (l .i)) ≡ l .count = zero-add _ ∙ sym (g .1 .0) in (
-                  v .1,
-                  (
-                    rw (e, w .6) (omega (arith, length-append (allBelow test (l .i)) (l .i ∷ []), g .1 .0)),
-                    w .5 ∙ w .2 .ensures ∙ rw (e, sets-append, z, ← g .1 .1),
-                  ),
-                ),
-          ),
-        ),
-      ),
-    ))
-    (λ w. (
-      omega arith,
-      (
-        omega (arith, w .2),
-        (
-          u .kept .1 .1 .1 .0 ∙ l .inv .1 .1 .0,
-          (
-            rw (w .1) (l .inv .1 .1 .1 .0),
-            λ r.
-                let g = l .inv .1 .1 .1 .1 r in
-                let v = u .ensures (g .0) h in
-                let e : allBelow test (l .i + 1) ≡ allBelow test (l .i) = all-fails test (l .i) (sym (v .0) ∙ w .0 .left) in
-                (v .1, (rw e (w .2 ∙ g .1 .0), rw e (w .1 ∙ g .1 .1))),
-          ),
-        ),
-      ),
-    ))
+    (λ w. record {
+      within = omega arith;
+      lengths = record { bytes = u .kept .1 .1 .1 .0 ∙ l .inv .lengths .bytes; list = rw (w .5) (w .2 .kept .0 ∙ l .inv .lengths .list) };
+      done = record {
+        few = omega (arith, w .6, l .inv .done .few);
+        listed = λ r.
+            let g = l .inv .done .listed r in
+            let v = u .ensures (g .right) h in
+            let e : allBelow test (l .i + 1) ≡ allBelow test (l .i) ++ l .i ∷ [] = all-passes test (l .i) (sym (v .0) ∙ w .0 .taken) in
+            let z : 0 + length (allBelow test (l .i)) ≡ l .count = zero-add _ ∙ sym (g .many) in
+            record {
+              right = v .1;
+              many = rw (e, w .6) (omega (arith, length-append (allBelow test (l .i)) (l .i ∷ []), g .many));
+              slots = w .5 ∙ w .2 .ensures ∙ rw (e, sets-append, z, ← g .slots);
+            };
+      };
+    })
+    (λ w. record {
+      within = omega arith;
+      lengths = record { bytes = u .kept .1 .1 .1 .0 ∙ l .inv .lengths .bytes; list = rw (w .1) (l .inv .lengths .list) };
+      done = record {
+        few = omega (arith, w .2, l .inv .done .few);
+        listed = λ r.
+            let g = l .inv .done .listed r in
+            let v = u .ensures (g .right) h in
+            let e : allBelow test (l .i + 1) ≡ allBelow test (l .i) = all-fails test (l .i) (sym (v .0) ∙ w .0 .left) in
+            record { right = v .1; many = rw e (w .2 ∙ g .many); slots = rw e (w .1 ∙ g .slots) };
+      };
+    })
     (c .if1 .came)
 
 same-length : tie.Need-same-length Inv-loop μ-loop
@@ -111,8 +114,8 @@ returns c r =
     let l = c .before .loop in
     let n = c .before .before .slots in
     let d : l .i ≡ n .result = omega arith in
-    let w = l .inv .1 .1 .1 .1 r in
-    (rw (r .there, ← n .ensures, ← d) (w .1 .0), rw (r .there, ← n .ensures, ← d) (w .1 .1))
+    let w = l .inv .done .listed r in
+    (rw (r .there, ← n .ensures, ← d) (w .many), rw (r .there, ← n .ensures, ← d) (w .slots))
 
 pub mark-known-spec : {M : Type 1} → statement M
 mark-known-spec =

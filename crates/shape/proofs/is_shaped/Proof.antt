@@ -2,7 +2,7 @@
 use mathlib.Core.Path.{sym, _∙_}
 use borrow.Author.Tests.{le-leb, lt-leb, not-true, not-false}
 use lib.ListN.{length}
-use Rattle.rules.specs.Calls.{shaped}
+use Rattle.rules.specs.Calls.{maxBlocks, minHeads, maxHeads, shaped}
 use Rattle.shape.proofs.is_shaped.Statement.{statement}
 use Rattle.shape.proofs.is_shaped.Tie as tie
 
@@ -17,7 +17,7 @@ unfolding shaped
 returns-2 c =
     let p = let q : tie.Start = search in q .args in
     let if1 = let p : tie.Else1 = search in p .if1 in
-    rw (le-leb 1 (length (p .parents .now)) (if1 .left), lt-leb (length (p .parents .now)) 1024 (c .if2 .taken))
+    rw (le-leb 1 (length (p .parents .now)) (if1 .left), lt-leb (length (p .parents .now)) maxBlocks (c .if2 .taken))
 
 returns-3 : tie.Need-returns-3
 unfolding shaped
@@ -27,8 +27,8 @@ returns-3 c =
     let if2 = let p : tie.Else2 = search in p .if2 in
     rw (
       le-leb 1 (length (p .parents .now)) (if1 .left),
-      le-leb (length (p .parents .now)) 1024 (if2 .left),
-      lt-leb 2 (length (p .tips .now)) (c .if3 .taken),
+      le-leb (length (p .parents .now)) maxBlocks (if2 .left),
+      lt-leb minHeads (length (p .tips .now)) (c .if3 .taken),
     )
 
 returns-4 : tie.Need-returns-4
@@ -40,9 +40,9 @@ returns-4 c =
     let if3 = let p : tie.Else3 = search in p .if3 in
     rw (
       le-leb 1 (length (p .parents .now)) (if1 .left),
-      le-leb (length (p .parents .now)) 1024 (if2 .left),
-      le-leb 2 (length (p .tips .now)) (if3 .left),
-      lt-leb (length (p .tips .now)) 64 (c .if4 .taken),
+      le-leb (length (p .parents .now)) maxBlocks (if2 .left),
+      le-leb minHeads (length (p .tips .now)) (if3 .left),
+      lt-leb (length (p .tips .now)) maxHeads (c .if4 .taken),
     )
 
 blocks-fit-requires : tie.Need-blocks-fit-requires
@@ -60,9 +60,9 @@ returns-5 c =
     let e = sym (blocks-fit .ensures) ∙ not-true (blocks-fit .result) (c .if5 .taken) in
     rw (
       le-leb 1 (length (p .parents .now)) (if1 .left),
-      le-leb (length (p .parents .now)) 1024 (if2 .left),
-      le-leb 2 (length (p .tips .now)) (if3 .left),
-      le-leb (length (p .tips .now)) 64 (if4 .left),
+      le-leb (length (p .parents .now)) maxBlocks (if2 .left),
+      le-leb minHeads (length (p .tips .now)) (if3 .left),
+      le-leb (length (p .tips .now)) maxHeads (if4 .left),
       e,
     )
 
@@ -82,9 +82,9 @@ returns-6 c =
     let e = sym (blocks-fit .ensures) ∙ not-false (blocks-fit .result) (if5 .left) in
     rw (
       le-leb 1 (length (p .parents .now)) (if1 .left),
-      le-leb (length (p .parents .now)) 1024 (if2 .left),
-      le-leb 2 (length (p .tips .now)) (if3 .left),
-      le-leb (length (p .tips .now)) 64 (if4 .left),
+      le-leb (length (p .parents .now)) maxBlocks (if2 .left),
+      le-leb minHeads (length (p .tips .now)) (if3 .left),
+      le-leb (length (p .tips .now)) maxHeads (if4 .left),
       e,
     ) (c .heads-fit .ensures)
 

@@ -5,6 +5,7 @@ use mathlib.Core.Bool.{true, false}
 use borrow.Author.Tests.{not-true, not-false}
 use Rattle.rules.specs.Records.{occupied}
 use Rattle.rules.specs.BlockTable.{markSubtree}
+use Rattle.rules.specs.Calls.{maxBlocks}
 use Rattle.subtree.proofs.Known.{nothing-known}
 use Rattle.subtree.proofs.mark_subtree.Statement.{statement}
 use Rattle.subtree.proofs.mark_subtree.Tie as tie
@@ -33,7 +34,7 @@ returns-2 c =
     let b = c .before .before .before .before .before .before in
     let a = b .before .before .before .before .before .args in
     let o : occupied (a .sequences .now) (a .root .0) ≡ true = sym (b .before .is-occupied .ensures) ∙ not-false (b .before .is-occupied .result) (b .if1 .left) in
-    c .before .before .before .mark-known .ensures (nothing-known (a .parents .now) (a .sequences .now) (a .root .0) 1024 o)
+    c .before .before .before .mark-known .ensures (nothing-known (a .parents .now) (a .sequences .now) (a .root .0) maxBlocks o)
 
 pub mark-subtree-spec : {M : Type 1} → statement M
 mark-subtree-spec =

@@ -6,6 +6,8 @@ use Prim.Native.Nat.{ℕ, zero, suc, _+_, _*_, _-_}
 use lib.Dec.{eqb, ltb, leb}
 use lib.ListN.{length, getD, take, drop}
 use Rattle.rules.specs.Common.{if_then_else_}
+use Rattle.rules.specs.Records.{NONE}
+use Rattle.rules.specs.Timer.{maxTime}
 use Rattle.trial_lines.specs.declared.Line.{Line}
 use Rattle.trial_lines.specs.declared.Line.the-variants.{Fresh, Admit, Promote, Remove, Timer, Restart, Unread}
 
@@ -47,12 +49,12 @@ unfoldable pub number : ℕ → List ℕ → Option ℕ
 number most bytes =
     if ltb 0 (length bytes) && (allDigits bytes && leb (valueFrom 0 bytes) most) then some (valueFrom 0 bytes) else none
 
--- slots, sequences and the sizes n and m have 32 bits, times 64
+-- slots, sequences and the sizes n and m have 32 bits, of which NONE_REF is the highest number; times 64
 abbrev pub wordMost : ℕ
-wordMost = 4294967295
+wordMost = NONE
 
 abbrev pub timeMost : ℕ
-timeMost = 18446744073709551615
+timeMost = maxTime
 
 -- ---- hashes: two hexadecimal digits, a to f the bytes 97 to 102
 

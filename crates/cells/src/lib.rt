@@ -3,7 +3,7 @@
 ghost use mathlib.Core.Path.{_≡_};
 ghost use mathlib.Core.Logic.{_≢_};
 ghost use mathlib.Core.Bool.{true};
-ghost use Prim.Native.Nat.{ℕ, _+_, _<_, _≤_};
+ghost use Prim.Native.Nat.{ℕ, _+_, _<_, _≤_, min};
 ghost use lib.ListN.{getD, set};
 ghost use Rattle.cells.specs.Places.{nextAt};
 ghost use Rattle.rules.specs.Hashes.{hashAt, firstByte, putHash, sameHash, hashLess};
@@ -21,6 +21,13 @@ pub fn slots(words: &[u32]) -> u32
         return len as u32;
     }
     NONE_REF
+}
+
+// The lesser of two lengths.
+pub fn least(a: usize, b: usize) -> usize
+    ensures { λ r. ⌜ r ≡ min a b ⌝ }
+{
+    if a < b { a } else { b }
 }
 
 // The word in a place; NONE_REF past the end.

@@ -1,10 +1,11 @@
 // The missing hash of a head.
 ghost use mathlib.Core.Path.{_≡_};
-ghost use Prim.Native.Nat.{_*_, min};
+ghost use Prim.Native.Nat.{_*_};
 ghost use lib.ListN.{take, drop};
 ghost use Rattle.rules.specs.Hashes.{hashLength};
 ghost use Rattle.rules.specs.Caches.{waitsAt, knowing as knowingRule, missingPart, missingKept};
 use cells::hash_at;
+use cells::least;
 use cells::next_at;
 use cells::put_hash;
 use cells::slots;
@@ -65,12 +66,6 @@ fn knowing_by_head(
         k += 1;
     }
     head
-}
-
-fn least(a: usize, b: usize) -> usize
-    ensures { λ r. ⌜ r ≡ min a b ⌝ }
-{
-    if a < b { a } else { b }
 }
 
 // What a buffer has of the 32 bytes in a place of hashes.

@@ -1,6 +1,5 @@
 // The fronts of lent arrays, as many slots as are in use, lent on: to a line's call, and to the listing.
 ghost use mathlib.Core.Path.{_≡_};
-ghost use Prim.Native.Nat.{min};
 ghost use lib.ListN.{length, take};
 ghost use lib.Seq.{sets};
 ghost use Rattle.rules.specs.Records.{before, after};
@@ -9,17 +8,12 @@ ghost use Rattle.trial_lines.specs.Writing.{place};
 ghost use Rattle.trial_listing.specs.Listing.{listingOf};
 ghost use Rattle.trial_calls.specs.Calling.{Tells};
 ghost use Rattle.trial_fronts.specs.Fronts.{front, behind};
+use cells::least;
 use rules::BlockSlot;
 use trial_answer::answer;
 use trial_calls::Told;
 use trial_lines::Line;
 use trial_listing::listing;
-
-fn least(a: usize, b: usize) -> usize
-    ensures { λ r. ⌜ r ≡ min a b ⌝ }
-{
-    if a < b { a } else { b }
-}
 
 // As much of each array as there is.
 pub fn answer_front(

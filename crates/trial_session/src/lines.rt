@@ -10,6 +10,7 @@ ghost use Rattle.trial_session.specs.Session.{soFar, tooLong, lineBegun,
 ghost use Rattle.trial_session.specs.Held.{heldOf, stateIn, sessionIn, asked as askedRule, sizesAfter, heldLine, heldByte, heldFed, heldClosed, Comes};
 use crate::Printed;
 use crate::Trial;
+use cells::least;
 use trial_calls::Told;
 use trial_fronts::answer_front;
 use trial_lines::Line;
@@ -194,12 +195,6 @@ fn take_byte(
         begun,
     };
     Printed { trial: next, at }
-}
-
-fn least(a: usize, b: usize) -> usize
-    ensures { λ r. ⌜ r ≡ min a b ⌝ }
-{
-    if a < b { a } else { b }
 }
 
 // One byte after the other, no more than `most`.

@@ -1,11 +1,12 @@
 -- Byte after byte.
 use borrow.Author.Needs.{needs}
 use native.Mathlib.Omega.{arith}
-use Prim.Native.Nat.{_≤_, _<_, _-_}
+use Prim.Native.Nat.{_<_, _-_}
 use mathlib.Core.Path.{_≡_, refl}
 use lib.ListN.{length, take}
 use Rattle.rules.specs.Records.{tablesOf}
 use Rattle.rules.proofs.Places.{the}
+use Rattle.rules.proofs.Loops.{Turned}
 use Rattle.trial_session.specs.Session.{fed}
 use Rattle.trial_session.specs.Held.{heldOf, sessionIn, heldFed, Comes}
 use Rattle.trial_session.proofs.Chunks.{comes-first, comes-turn, comes-all}
@@ -14,7 +15,9 @@ use Rattle.trial_session.proofs.lines.take_bytes.Tie as tie
 
 abbrev Inv-loop : tie.InvT-loop
 Inv-loop hashes₀ parents₀ sequences₀ counts₀ flags₀ tips₀ tails₀ missing₀ requested₀ arrivals₀ connected₀ line₀ bytes most out₀ n printed₀ i₀ hashes parents sequences counts flags tips tails missing requested arrivals connected line out printed i =
-    (i ≤ n) × (length out ≡ length out₀) × Comes (heldFed (heldOf (tablesOf hashes₀ parents₀ sequences₀ counts₀ flags₀ tips₀ tails₀ missing₀ requested₀ arrivals₀ connected₀) line₀ (printed₀ .trial)) (take i bytes)) (fed (sessionIn (heldOf (tablesOf hashes₀ parents₀ sequences₀ counts₀ flags₀ tips₀ tails₀ missing₀ requested₀ arrivals₀ connected₀) line₀ (printed₀ .trial))) (take i bytes)) out₀ 0 (heldOf (tablesOf hashes parents sequences counts flags tips tails missing requested arrivals connected) line (printed .trial)) out (printed .at)
+    let was = heldOf (tablesOf hashes₀ parents₀ sequences₀ counts₀ flags₀ tips₀ tails₀ missing₀ requested₀ arrivals₀ connected₀) line₀ (printed₀ .trial) in
+    let h = heldOf (tablesOf hashes parents sequences counts flags tips tails missing requested arrivals connected) line (printed .trial) in
+    Turned i n (length out ≡ length out₀) (Comes (heldFed was (take i bytes)) (fed (sessionIn was) (take i bytes)) out₀ 0 h out (printed .at))
 
 abbrev μ-loop : tie.MeasureT-loop
 μ-loop hashes₀ parents₀ sequences₀ counts₀ flags₀ tips₀ tails₀ missing₀ requested₀ arrivals₀ connected₀ line₀ bytes most out₀ n printed₀ i₀ hashes parents sequences counts flags tips tails missing requested arrivals connected line out printed i = n - i
@@ -33,7 +36,7 @@ least-requires : tie.Need-least-requires Inv-loop μ-loop
 least-requires c κs = tt
 
 loop-holds : tie.Need-loop-holds Inv-loop μ-loop
-loop-holds c = (omega arith, refl, comes-first _ _)
+loop-holds c = record { within = omega arith; lengths = refl; done = comes-first _ _ }
 
 shared-slice-read-take-byte : tie.Need-shared-slice-read-take-byte Inv-loop μ-loop
 shared-slice-read-take-byte c = search needs
@@ -51,11 +54,12 @@ loop-again : tie.Need-loop-again Inv-loop μ-loop
 loop-again c =
     let t = the (tie.After-take-byte Inv-loop μ-loop) (search) in
     let l = turn t in
-    let i = l .before .loop in (
-      omega (arith, l .loop-test .taken),
-      omega (arith, t .take-byte .kept, i .inv),
-      comes-turn _ _ _ (start (l .before) .args .bytes .now) (i .i) _ _ _ _ _ _ (left l) refl (i .inv .2) (t .take-byte .ensures),
-    )
+    let i = l .before .loop in
+    record {
+      within = omega (arith, l .loop-test .taken);
+      lengths = omega (arith, t .take-byte .kept, i .inv .lengths);
+      done = comes-turn _ _ _ (start (l .before) .args .bytes .now) (i .i) _ _ _ _ _ _ (left l) refl (i .inv .done) (t .take-byte .ensures);
+    }
 
 same-length : tie.Need-same-length Inv-loop μ-loop
 same-length c = search needs
@@ -63,7 +67,7 @@ same-length c = search needs
 returns : tie.Need-returns Inv-loop μ-loop
 returns c =
     let l = the (tie.At-loop Inv-loop μ-loop) (search) in
-    comes-all _ _ (start l .args .bytes .now) (l .loop .i) (start l .args .most) _ _ _ (l .loop .inv .2) (omega arith)
+    comes-all _ _ (start l .args .bytes .now) (l .loop .i) (start l .args .most) _ _ _ (l .loop .inv .done) (omega arith)
 
 pub take-bytes-spec : {M : Type 1} → statement M
 take-bytes-spec =

@@ -17,7 +17,7 @@ use Rattle.trial_lines.specs.declared.Line.the-variants.{Fresh, Admit, Promote,
 use Rattle.trial_calls.specs.Calling.{called, lineSaid, isRefused, renews, Tells}
 use Rattle.trial_fronts.specs.Fronts.{front, behind, before}
 use Rattle.trial_session.specs.Session.{Session, soFar, unlessRefused, lineDone, lineFed}
-use Rattle.trial_session.specs.Held.{Held, heldOf, stateIn, begunIn, sessionIn, asked, sizesAfter, trialAfter, heldLine, Comes}
+use Rattle.trial_session.specs.Held.{arrayBlocks, arrayHeads, Held, heldOf, stateIn, begunIn, sessionIn, asked, sizesAfter, trialAfter, heldLine, Comes}
 use Rattle.trial_session.specs.declared.Trial.{Trial}
 use Rattle.trial_session.proofs.Sized.{Sized, sized-front, sized-fresh, front-shape, shaped-within}
 use Rattle.trial_session.proofs.Laid.{laid-same, laid-is}
@@ -32,13 +32,13 @@ fresh-accepted k j e =
     let b = sized-fresh k j .tips in
     rw (e, a, b)
 
-front-accepted : (k j : ℕ) (t : Tables) (a : ℕ) → Sized 1025 65 t → shaped (freshState k j .tables) ≡ true
+front-accepted : (k j : ℕ) (t : Tables) (a : ℕ) → Sized arrayBlocks arrayHeads t → shaped (freshState k j .tables) ≡ true
     → fresh (stateOf (front k j t) a) ≡ answering (freshState k j) done
 unfolding fresh
 front-accepted k j t a z e =
     let q : shaped (front k j t) ≡ true = front-shape k j t z ∙ e in
     let w = shaped-within k j e in
-    let f = sized-front k j 1025 65 t z in
+    let f = sized-front k j arrayBlocks arrayHeads t z in
     let n : blocksIn (front k j t) ≡ k = f .parents ∙ omega arith in
     let m : headsIn (front k j t) ≡ j = f .tips ∙ omega arith in
     rw (q, n, m)
@@ -48,7 +48,7 @@ fresh-refused : (k j : ℕ) → shaped (freshState k j .tables) ≡ false → fr
 unfolding fresh
 fresh-refused k j e = rw e
 
-front-refused : (k j : ℕ) (t : Tables) (a : ℕ) → Sized 1025 65 t → shaped (freshState k j .tables) ≡ false
+front-refused : (k j : ℕ) (t : Tables) (a : ℕ) → Sized arrayBlocks arrayHeads t → shaped (freshState k j .tables) ≡ false
     → fresh (stateOf (front k j t) a) ≡ refuse (stateOf (front k j t) a) 1
 unfolding fresh
 front-refused k j t a z e = let q : shaped (front k j t) ≡ false = front-shape k j t z ∙ e in rw q
@@ -94,7 +94,7 @@ plain t u bytes z line out written at next b renewed is never tell rest =
     rw r (comes t u bytes z line out written at next z b d is after (tell .left) rest (tell .text) (tell .end))
 
 -- new tables, or the old ones where they are refused
-anew : (t u : Tables) (bytes : List ℕ) (z : Trial) (n m : ℕ) (out written : List ℕ) (at next : ℕ) (b : ℕ) (renewed : Bool) → Sized 1025 65 t
+anew : (t u : Tables) (bytes : List ℕ) (z : Trial) (n m : ℕ) (out written : List ℕ) (at next : ℕ) (b : ℕ) (renewed : Bool) → Sized arrayBlocks arrayHeads t
     → Tells (stateOf (front n m t) (z .active .0)) (Fresh n m) out at (stateOf (front n m u) b) renewed written next
     → behind n m u ≡ behind n m t
     → Comes (heldLine (heldOf t bytes z) (Fresh n m)) (lineFed (stateIn (heldOf t bytes z)) (Fresh n m)) out at
@@ -125,7 +125,7 @@ anew t u bytes z n m out written at next b renewed sized tell rest =
 
 -- ---- every line
 
-line-comes : (t u : Tables) (bytes : List ℕ) (z : Trial) (line : Line) (out written : List ℕ) (at next : ℕ) (b : ℕ) (renewed : Bool) → Sized 1025 65 t
+line-comes : (t u : Tables) (bytes : List ℕ) (z : Trial) (line : Line) (out written : List ℕ) (at next : ℕ) (b : ℕ) (renewed : Bool) → Sized arrayBlocks arrayHeads t
     → Tells (stateOf (front (asked z line .n) (asked z line .m) t) (z .active .0)) line out at
     (stateOf (front (asked z line .n) (asked z line .m) u) b) renewed written next
     → behind (asked z line .n) (asked z line .m) u ≡ behind (asked z line .n) (asked z line .m) t
@@ -143,7 +143,7 @@ line-comes t u bytes z Unread out written at next b renewed sized tell rest = pl
 pub line-ends : (t u : Tables) (bytes : List ℕ) (z sizes y : Trial) (line : Line) (out written : List ℕ) (at next b : ℕ) (renewed : Bool)
     → Tells (stateOf (front (sizes .n) (sizes .m) t) (z .active .0)) line out at (stateOf (front (sizes .n) (sizes .m) u) b) renewed written next
     × (behind (sizes .n) (sizes .m) u ≡ behind (sizes .n) (sizes .m) t)
-    → sizes ≡ asked z line → y ≡ sizesAfter (if renewed then sizes else z) b → Sized 1025 65 t
+    → sizes ≡ asked z line → y ≡ sizesAfter (if renewed then sizes else z) b → Sized arrayBlocks arrayHeads t
     → Comes (heldLine (heldOf t bytes z) line) (lineFed (stateIn (heldOf t bytes z)) line) out at (heldOf u bytes y) written next
 line-ends t u bytes z sizes y line out written at next b renewed (tell, rest) e f sized =
     rw (f, e) (line-comes t u bytes z line out written at next b renewed sized (rw e at tell) (rw e at rest))

@@ -12,6 +12,7 @@ use Rattle.rules.specs.Records.{Tables, emptyBlocks, emptyHeads, blocksFit, hea
 use Rattle.rules.specs.Calls.{maxBlocks, minHeads, maxHeads, shaped, freshState}
 use Rattle.rules.proofs.Splits.{split, and-true}
 use Rattle.trial_fronts.specs.Fronts.{front}
+use Rattle.trial_session.specs.Held.{arrayBlocks, arrayHeads}
 
 pub record Sized (n m : ℕ) (t : Tables) : Type 0 where
   pub hashes : length (t .blocks .hashes) ≡ n * hashLength
@@ -99,18 +100,18 @@ leb-alike a b c d f g =
     (λ h. e ∙ sym h))
 
 -- arrays with one slot more than tables may have: their front has the shape of fresh tables of its size
-pub front-shape : (k j : ℕ) (t : Tables) → Sized 1025 65 t → shaped (front k j t) ≡ shaped (freshState k j .tables)
+pub front-shape : (k j : ℕ) (t : Tables) → Sized arrayBlocks arrayHeads t → shaped (front k j t) ≡ shaped (freshState k j .tables)
 unfolding within
 front-shape k j t z =
-    let a = leb-alike 1 (min k 1025) 1 k (λ h. omega arith) (λ h. omega arith) in
-    let b = leb-alike (min k 1025) maxBlocks k maxBlocks (λ h. omega arith) (λ h. omega arith) in
-    let c = leb-alike minHeads (min j 65) minHeads j (λ h. omega arith) (λ h. omega arith) in
-    let d = leb-alike (min j 65) maxHeads j maxHeads (λ h. omega arith) (λ h. omega arith) in
-    sized-shape (min k 1025) (min j 65) (front k j t) (sized-front k j 1025 65 t z)
+    let a = leb-alike 1 (min k arrayBlocks) 1 k (λ h. omega arith) (λ h. omega arith) in
+    let b = leb-alike (min k arrayBlocks) maxBlocks k maxBlocks (λ h. omega arith) (λ h. omega arith) in
+    let c = leb-alike minHeads (min j arrayHeads) minHeads j (λ h. omega arith) (λ h. omega arith) in
+    let d = leb-alike (min j arrayHeads) maxHeads j maxHeads (λ h. omega arith) (λ h. omega arith) in
+    sized-shape (min k arrayBlocks) (min j arrayHeads) (front k j t) (sized-front k j arrayBlocks arrayHeads t z)
     ∙ rw (a, b, c, d) (sym (sized-shape k j (freshState k j .tables) (sized-fresh k j)))
 
 -- and where it has, it has so many slots
-pub shaped-within : (k j : ℕ) → shaped (freshState k j .tables) ≡ true → (k ≤ 1024) × (j ≤ 64)
+pub shaped-within : (k j : ℕ) → shaped (freshState k j .tables) ≡ true → (k ≤ maxBlocks) × (j ≤ maxHeads)
 unfolding within
 shaped-within k j e =
     let w : within k j ≡ true = sym (sized-shape k j (freshState k j .tables) (sized-fresh k j)) ∙ e in

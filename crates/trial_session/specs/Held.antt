@@ -2,13 +2,13 @@
 -- start of its buffer. What stands behind is left as it was.
 use mathlib.Core.Path.{_≡_}
 use mathlib.Core.List.{List, [], _∷_, _++_}
-use Prim.Native.Nat.{ℕ, _+_, min}
+use Prim.Native.Nat.{ℕ, _+_, _*_, min}
 use lib.Dec.{eqb, leb}
 use lib.ListN.{length, set, take, drop}
 use lib.Seq.{sets}
 use Rattle.rules.specs.Common.{if_then_else_}
 use Rattle.rules.specs.Records.{Tables, NONE}
-use Rattle.rules.specs.Calls.{State, Stepped, stateOf}
+use Rattle.rules.specs.Calls.{State, Stepped, stateOf, maxBlocks, maxHeads}
 use Rattle.trial_lines.specs.Writing.{place}
 use Rattle.trial_lines.specs.declared.Line.{Line}
 use Rattle.trial_lines.specs.declared.Line.the-variants.{Fresh, Admit, Promote, Remove, Timer, Restart, Unread}
@@ -18,6 +18,13 @@ use Rattle.trial_session.specs.Session.{lineDone, lineMost, Begun, soFar
 use Rattle.trial_session.specs.declared.Trial.{Trial}
 
 -- ---- what is held
+
+-- the arrays have one slot more than tables may have
+abbrev pub arrayBlocks : ℕ
+arrayBlocks = maxBlocks + 1
+
+abbrev pub arrayHeads : ℕ
+arrayHeads = maxHeads + 1
 
 pub record Held : Type 0 where
   pub arrays : Tables
@@ -88,12 +95,12 @@ heldFed h (byte ∷ bytes) = heldFed (heldByte h byte) bytes
 unfoldable pub heldClosed : Held → Held
 heldClosed h = if hasBegun (begunIn h) then heldEnded h else h
 
--- how many bytes are taken at once, and how many what is printed then, or at the end, may have
+-- how many bytes are taken at once, and how many what is printed then, or at the end, may have: 96 for a last line and for each slot
 abbrev pub chunkMost : ℕ
 chunkMost = 1024
 
 abbrev pub room : ℕ
-room = 104736
+room = 96 + 96 * (arrayBlocks + arrayHeads)
 
 -- ---- what a function of the session leaves
 

@@ -3,6 +3,7 @@ use borrow.Author.Needs.{needs}
 use Rattle.rules.specs.Records.{tablesOf}
 use Rattle.rules.proofs.Places.{the}
 use Rattle.trial_session.proofs.Answered.{line-ends}
+use Rattle.trial_session.specs.Held.{arrayBlocks, arrayHeads}
 use Rattle.trial_session.proofs.Sized.{Sized}
 use Rattle.trial_session.proofs.lines.end_line.Statement.{statement}
 use Rattle.trial_session.proofs.lines.end_line.Tie as tie
@@ -20,7 +21,7 @@ abbrev sizes : tie.After-answer-front → tie.After-asked
 sizes c = search
 
 -- the arrays have their types' lengths
-sized : (l : tie.After-answer-front-arg12) → Sized 1025 65 (tablesOf (start l .args .hashes .now) (start l .args .parents .now) (start l .args .sequences .now) (start l .args .counts .now) (start l .args .flags .now) (start l .args .tips .now) (start l .args .tails .now) (start l .args .missing .now) (start l .args .requested .now) (start l .args .arrivals .now) (start l .args .connected .now))
+sized : (l : tie.After-answer-front-arg12) → Sized arrayBlocks arrayHeads (tablesOf (start l .args .hashes .now) (start l .args .parents .now) (start l .args .sequences .now) (start l .args .counts .now) (start l .args .flags .now) (start l .args .tips .now) (start l .args .tails .now) (start l .args .missing .now) (start l .args .requested .now) (start l .args .arrivals .now) (start l .args .connected .now))
 sized l = record {
   hashes = search needs;
   parents = search needs;

@@ -11,17 +11,14 @@ use Rattle.trial_session.proofs.lines.end_line.Tie as tie
 abbrev told : tie.After-after → tie.After-answer-front
 told c = search
 
-abbrev lent : tie.After-answer-front → tie.After-answer-front-arg12
-lent c = search
-
-abbrev start : tie.After-answer-front-arg12 → tie.Start
-start c = search
-
 abbrev sizes : tie.After-answer-front → tie.After-asked
 sizes c = search
 
+abbrev start : tie.After-asked → tie.Start
+start c = search
+
 -- the arrays have their types' lengths
-sized : (l : tie.After-answer-front-arg12) → Sized arrayBlocks arrayHeads (tablesOf (start l .args .hashes .now) (start l .args .parents .now) (start l .args .sequences .now) (start l .args .counts .now) (start l .args .flags .now) (start l .args .tips .now) (start l .args .tails .now) (start l .args .missing .now) (start l .args .requested .now) (start l .args .arrivals .now) (start l .args .connected .now))
+sized : (l : tie.After-answer-front) → Sized arrayBlocks arrayHeads (tablesOf (start (sizes l) .args .hashes .now) (start (sizes l) .args .parents .now) (start (sizes l) .args .sequences .now) (start (sizes l) .args .counts .now) (start (sizes l) .args .flags .now) (start (sizes l) .args .tips .now) (start (sizes l) .args .tails .now) (start (sizes l) .args .missing .now) (start (sizes l) .args .requested .now) (start (sizes l) .args .arrivals .now) (start (sizes l) .args .connected .now))
 sized l = record {
   hashes = search needs;
   parents = search needs;
@@ -52,7 +49,7 @@ returns : tie.Need-returns
 returns c =
     let k = the tie.After-after (search) in
     let t = told k in
-    λ bytes. line-ends _ _ _ _ _ _ _ _ _ _ _ _ _ (t .answer-front .ensures) (sizes t .asked .ensures) (k .after .ensures) (sized (lent t))
+    λ bytes. line-ends _ _ _ _ _ _ _ _ _ _ _ _ _ (t .answer-front .ensures) (sizes t .asked .ensures) (k .after .ensures) (sized t)
 
 pub end-line-spec : {M : Type 1} → statement M
 end-line-spec = tie.close (tie.spec asked-requires answer-front-requires after-requires same-length returns)

@@ -14,9 +14,9 @@ use Rattle.rules.specs.Timer.{Ask}
 unfoldable pub statusFrom : ℕ → ℕ
 statusFrom n = if eqb n 1 then 1 else if eqb n 2 then 2 else 0
 
--- the head slot times 2^32 and the claimed sequence; the highest 64-bit number is none
+-- the head slot times 2^32 and the claimed sequence; with NONE_REF for both, the highest 64-bit number, it is none
 abbrev pub askNumber : Option Ask → ℕ
-askNumber none = 18446744073709551615
+askNumber none = NONE * 4294967296 + NONE
 askNumber (some ask) = ask .head * 4294967296 + ask .claims
 
 -- a time is written to the first place of a list; nothing is written where there is none

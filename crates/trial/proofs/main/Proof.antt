@@ -3,12 +3,13 @@ use borrow.Author.Needs.{needs}
 use mathlib.Core.Path.{_≡_}
 use native.Mathlib.Omega.{arith}
 use lib.ListN.{length}
+use Rattle.trial_session.specs.Held.{chunkMost}
 use Rattle.trial.proofs.main.Statement.{statement}
 use Rattle.trial.proofs.main.Tie as tie
 
 abbrev Inv-loop : tie.InvT-loop
 Inv-loop hashes₀ parents₀ sequences₀ counts₀ flags₀ tips₀ tails₀ missing₀ requested₀ arrivals₀ connected₀ line₀ chunk₀ out₀ trial₀ turns₀ hashes parents sequences counts flags tips tails missing requested arrivals connected line chunk out trial turns =
-    length chunk ≡ 1024
+    length chunk ≡ chunkMost
 
 abbrev μ-loop : tie.MeasureT-loop
 μ-loop hashes₀ parents₀ sequences₀ counts₀ flags₀ tips₀ tails₀ missing₀ requested₀ arrivals₀ connected₀ line₀ chunk₀ out₀ trial₀ turns₀ hashes parents sequences counts flags tips tails missing requested arrivals connected line chunk out trial turns = turns

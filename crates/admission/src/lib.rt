@@ -5,7 +5,7 @@ ghost use Rattle.rules.specs.Admission.{admitted};
 ghost use Rattle.rules.specs.Answers.{slotFound};
 use block_counts::adjust_head_ref_count;
 use head_placement::place_head;
-use late_tails::resolve_pending_tails;
+use pending_tails::resolve_pending_tails;
 use rules::BlockSlot;
 use rules::Found;
 

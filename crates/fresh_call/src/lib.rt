@@ -12,7 +12,7 @@ use rules::Refusal;
 use shape::is_shaped;
 
 // Empties all slots and all heads and gives NONE_REF for the record; a refusal changes nothing.
-pub fn fresh_at(
+pub fn fresh(
     hashes: &mut [u8],
     parents: &mut [u32],
     sequences: &mut [u32],

@@ -71,7 +71,7 @@ pub extern "C" fn probe_resolve_pending_tails(
         ≡ resolveTails (before hashes parents sequences counts flags tips tails missing requested arrivals connected) block
         (now (previous .entry)) ⌝ }
 {
-    late_tails::resolve_pending_tails(
+    pending_tails::resolve_pending_tails(
         hashes,
         parents,
         sequences,

@@ -1,9 +1,9 @@
 // Eviction.
 ghost use mathlib.Core.Path.{_≡_};
-ghost use Rattle.as_numbers.specs.Numbers.{orNone};
+ghost use Rattle.query_numbers.specs.Numbers.{orNone};
 ghost use Rattle.rules.specs.Records.{before, after};
 ghost use Rattle.rules.specs.Eviction.{victim, evictOne};
-use as_numbers::found_head;
+use query_numbers::found_head;
 use rules::BlockSlot;
 
 // The head slot of the victim; NONE_REF is none.

@@ -1,14 +1,14 @@
 // The head table, its anchors and its caches.
 ghost use mathlib.Core.Path.{_≡_};
-ghost use Rattle.as_numbers.specs.Numbers.{orNone};
+ghost use Rattle.query_numbers.specs.Numbers.{orNone};
 ghost use Rattle.probe.specs.Numbers.{slotNumber, isHead, headGot};
 ghost use Rattle.rules.specs.Hashes.{hashAt};
 ghost use Rattle.rules.specs.Records.{cachesBefore, cachesAfter};
 ghost use Rattle.rules.specs.Caches.{recompute, refreshHead, recomputeAll, nextHead, connectedHeadAt, storedHeadTail, setMissing};
 ghost use Rattle.rules.specs.Admission.{firstEmpty};
 use crate::numbers::any_slot;
-use as_numbers::found_head;
 use cells::put_word;
+use query_numbers::found_head;
 use rules::BlockSlot;
 use rules::HeadSlot;
 use rules::NextHead;

@@ -3,7 +3,7 @@
 ghost use mathlib.Core.Path.{_≡_};
 ghost use mathlib.Core.Bool.{not};
 ghost use lib.Dec.{eqb};
-ghost use Rattle.as_numbers.specs.Numbers.{orNone, yes};
+ghost use Rattle.query_numbers.specs.Numbers.{orNone, yes};
 ghost use Rattle.probe.specs.Numbers.{insertionNumber, statusFrom};
 ghost use Rattle.rules.specs.Hashes.{hashAt, hashLess};
 ghost use Rattle.rules.specs.Records.{occupied, statusNumber, blocksBefore, blocksAfter, blockOf};
@@ -19,8 +19,8 @@ pub mod recover;
 pub mod restore;
 
 use crate::numbers::inserted;
-use as_numbers::counted;
-use as_numbers::said;
+use query_numbers::counted;
+use query_numbers::said;
 use rules::Block;
 use rules::BlockSlot;
 use rules::BlockStatus;

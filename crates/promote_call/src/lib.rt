@@ -67,7 +67,7 @@ fn raise(
 }
 
 // Sets the block's flag and status Active, works out all caches and gives its slot for the record; a refusal changes nothing.
-pub fn promote_at(
+pub fn promote(
     hashes: &[u8],
     parents: &[u32],
     sequences: &[u32],

@@ -1,16 +1,16 @@
 // Looking at the heads, and the rank of a branch.
 ghost use mathlib.Core.Path.{_≡_};
-ghost use Rattle.as_numbers.specs.Numbers.{orNone, yes, anchorNumber};
+ghost use Rattle.query_numbers.specs.Numbers.{orNone, yes, anchorNumber};
 ghost use Rattle.rules.specs.Hashes.{hashAt};
 ghost use Rattle.rules.specs.Records.{headCount, hasStoredHead};
 ghost use Rattle.rules.specs.Anchor.{locateAnchor};
 ghost use Rattle.rules.specs.Caches.{slotOfHead};
 ghost use Rattle.rules.specs.Rank.{outranks};
-use as_numbers::anchored;
-use as_numbers::found_head;
-use as_numbers::said;
 use branch_value::Rank;
 use cells::hash_at;
+use query_numbers::anchored;
+use query_numbers::found_head;
+use query_numbers::said;
 use rules::BlockSlot;
 
 // How many heads are in use.

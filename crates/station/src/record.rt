@@ -4,8 +4,8 @@ ghost use Rattle.rules.specs.Records.{before, after};
 ghost use Rattle.rules.specs.Calls.{stateOf, promote as promoteRule, fresh as freshRule};
 ghost use Rattle.call_numbers.specs.Numbers.{GivesAndSets};
 use call_numbers::outcome_number;
-use fresh_call::fresh_at;
-use promote_call::promote_at;
+use fresh_call::fresh;
+use promote_call::promote;
 use rules::ActiveHead;
 use rules::BlockSlot;
 
@@ -36,7 +36,7 @@ fn promote_kept(
         (stateOf (before hashes parents sequences counts flags tips tails missing requested arrivals connected) (active .0))
         slot) ⌝ }
 {
-    let recorded = promote_at(
+    let recorded = promote(
         hashes,
         parents,
         sequences,
@@ -78,7 +78,7 @@ fn fresh_kept(
         (freshRule
         (stateOf (before hashes parents sequences counts flags tips tails missing requested arrivals connected) (active .0))) ⌝ }
 {
-    let recorded = fresh_at(
+    let recorded = fresh(
         hashes,
         parents,
         sequences,

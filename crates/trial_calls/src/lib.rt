@@ -9,8 +9,8 @@ ghost use Rattle.rules.specs.Calls.{stateOf};
 ghost use Rattle.trial_lines.specs.declared.Line.the-variants.{Fresh, Admit, Promote, Remove, Timer, Restart, Unread};
 ghost use Rattle.trial_calls.specs.Calling.{isRefused, Tells};
 use admit_call::admit;
-use fresh_call::fresh_at;
-use promote_call::promote_at;
+use fresh_call::fresh;
+use promote_call::promote;
 use remove_call::remove;
 use restart_call::restart;
 use rules::BlockSlot;
@@ -65,7 +65,7 @@ pub fn tell_fresh(
         (stateOf (after hashes parents sequences counts flags tips tails missing requested arrivals connected) (r .active .0))
         (r .renewed) (now (out .exit)) (r .at)) ⌝ }
 {
-    let recorded = fresh_at(
+    let recorded = fresh(
         hashes,
         parents,
         sequences,
@@ -166,7 +166,7 @@ pub fn tell_promote(
         (stateOf (after hashes parents sequences counts flags tips tails missing requested arrivals connected) (r .active .0))
         (r .renewed) (now (out .exit)) (r .at) ⌝ }
 {
-    let recorded = promote_at(
+    let recorded = promote(
         hashes,
         parents,
         sequences,

@@ -10,7 +10,7 @@ use crate::lines::letter_line;
 use crate::lines::none_due_line;
 use crate::lines::number_line;
 use crate::lines::request_line;
-use as_numbers::refusal_number;
+use query_numbers::refusal_number;
 use rules::Admitted;
 use rules::BlockSlot;
 use rules::Outcome;

@@ -1,7 +1,7 @@
 use mathlib.Core.Path.{ap, _∙_}
 use mir.Syntax.{w8}
 use mir.ValLaws.{toZ-ofZ}
-use Rattle.as_numbers.specs.Numbers.{orNone}
+use Rattle.query_numbers.specs.Numbers.{orNone}
 use borrow.Author.Needs.{needs}
 use Rattle.probe.proofs.probe_adjust_head_ref_count.Statement.{statement}
 use Rattle.probe.proofs.probe_adjust_head_ref_count.Tie as tie

@@ -1,7 +1,7 @@
 -- The deletion's equation, with its answer as a number.
 use native.Mathlib.Omega.{arith}
 use mathlib.Core.Path.{ap, _∙_}
-use Rattle.as_numbers.specs.Numbers.{yes}
+use Rattle.query_numbers.specs.Numbers.{yes}
 use Rattle.rules.proofs.Places.{the}
 use Rattle.probe.proofs.probe_delete.Statement.{statement}
 use Rattle.probe.proofs.probe_delete.Tie as tie

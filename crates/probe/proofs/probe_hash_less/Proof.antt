@@ -1,5 +1,5 @@
 use mathlib.Core.Path.{ap, _∙_}
-use Rattle.as_numbers.specs.Numbers.{yes}
+use Rattle.query_numbers.specs.Numbers.{yes}
 use Rattle.probe.proofs.probe_hash_less.Statement.{statement}
 use Rattle.probe.proofs.probe_hash_less.Tie as tie
 

@@ -9,11 +9,11 @@ use Rattle.trial_calls.proofs.tell_fresh.Tie as tie
 abbrev looked : tie.After-fresh-line → tie.After-is-done
 looked c = search
 
-abbrev called : tie.After-is-done → tie.After-fresh-at
+abbrev called : tie.After-is-done → tie.After-fresh
 called c = search
 
-fresh-at-requires : tie.Need-fresh-at-requires
-fresh-at-requires c κs = tt
+fresh-requires : tie.Need-fresh-requires
+fresh-requires c κs = tt
 
 is-done-requires : tie.Need-is-done-requires
 is-done-requires c κs = tt
@@ -62,13 +62,13 @@ returns c =
     let l = the tie.After-fresh-line (search) in
     let k = looked l in
     let d = called k in
-    λ n m. fresh-tells (d .fresh-at .ensures .answers) (d .fresh-at .ensures .leaves) (d .fresh-at .ensures .records) (k .is-done .ensures) (l .fresh-line .ensures)
+    λ n m. fresh-tells (d .fresh .ensures .answers) (d .fresh .ensures .leaves) (d .fresh .ensures .records) (k .is-done .ensures) (l .fresh-line .ensures)
 
 pub tell-fresh-spec : {M : Type 1} → statement M
 tell-fresh-spec =
     tie.close
     (tie.spec
-    fresh-at-requires
+    fresh-requires
     is-done-requires
     fresh-line-requires
     same-length

@@ -6,11 +6,11 @@ use Rattle.trial_calls.proofs.tell_promote.Statement.{statement}
 use Rattle.trial_calls.proofs.tell_promote.Tie as tie
 
 -- the call, from the line after it
-abbrev called : tie.After-promote-line → tie.After-promote-at
+abbrev called : tie.After-promote-line → tie.After-promote
 called c = search
 
-promote-at-requires : tie.Need-promote-at-requires
-promote-at-requires c κs = tt
+promote-requires : tie.Need-promote-requires
+promote-requires c κs = tt
 
 promote-line-requires : tie.Need-promote-line-requires
 promote-line-requires c κs = tt
@@ -37,13 +37,13 @@ returns : tie.Need-returns
 returns c =
     let l = the tie.After-promote-line (search) in
     let d = called l in
-    promote-tells (d .promote-at .ensures .answers) (d .promote-at .ensures .leaves) (d .promote-at .ensures .records) (l .promote-line .ensures)
+    promote-tells (d .promote .ensures .answers) (d .promote .ensures .leaves) (d .promote .ensures .records) (l .promote-line .ensures)
 
 pub tell-promote-spec : {M : Type 1} → statement M
 tell-promote-spec =
     tie.close
     (tie.spec
-    promote-at-requires
+    promote-requires
     promote-line-requires
     same-length
     same-length-2

@@ -1,5 +1,5 @@
 use mathlib.Core.Path.{ap, _∙_}
-use Rattle.as_numbers.specs.Numbers.{orNone}
+use Rattle.query_numbers.specs.Numbers.{orNone}
 use Rattle.probe.proofs.evict.probe_select_eviction_victim.Statement.{statement}
 use Rattle.probe.proofs.evict.probe_select_eviction_victim.Tie as tie
 

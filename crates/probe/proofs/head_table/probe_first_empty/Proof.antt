@@ -1,5 +1,5 @@
 use mathlib.Core.Path.{ap, _∙_}
-use Rattle.as_numbers.specs.Numbers.{orNone}
+use Rattle.query_numbers.specs.Numbers.{orNone}
 use Rattle.probe.proofs.head_table.probe_first_empty.Statement.{statement}
 use Rattle.probe.proofs.head_table.probe_first_empty.Tie as tie
 

@@ -1,5 +1,5 @@
 use mathlib.Core.Path.{ap, _∙_}
-use Rattle.as_numbers.specs.Numbers.{yes}
+use Rattle.query_numbers.specs.Numbers.{yes}
 use Rattle.station.proofs.branches.station_has_stored_head.Statement.{statement}
 use Rattle.station.proofs.branches.station_has_stored_head.Tie as tie
 

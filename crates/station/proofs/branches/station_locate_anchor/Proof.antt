@@ -1,5 +1,5 @@
 use mathlib.Core.Path.{ap, _∙_}
-use Rattle.as_numbers.specs.Numbers.{anchorNumber}
+use Rattle.query_numbers.specs.Numbers.{anchorNumber}
 use Rattle.station.proofs.branches.station_locate_anchor.Statement.{statement}
 use Rattle.station.proofs.branches.station_locate_anchor.Tie as tie
 

@@ -1,5 +1,5 @@
 use mathlib.Core.Path.{ap, _∙_}
-use Rattle.as_numbers.specs.Numbers.{yes}
+use Rattle.query_numbers.specs.Numbers.{yes}
 use Rattle.station.proofs.branches.station_outranks.Statement.{statement}
 use Rattle.station.proofs.branches.station_outranks.Tie as tie
 

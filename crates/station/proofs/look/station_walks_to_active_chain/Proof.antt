@@ -1,5 +1,5 @@
 use mathlib.Core.Path.{ap, _∙_}
-use Rattle.as_numbers.specs.Numbers.{yes}
+use Rattle.query_numbers.specs.Numbers.{yes}
 use Rattle.station.proofs.look.station_walks_to_active_chain.Statement.{statement}
 use Rattle.station.proofs.look.station_walks_to_active_chain.Tie as tie
 

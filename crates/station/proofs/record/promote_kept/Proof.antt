@@ -3,8 +3,8 @@ use Rattle.call_numbers.proofs.Given.{gives-and-sets}
 use Rattle.station.proofs.record.promote_kept.Statement.{statement}
 use Rattle.station.proofs.record.promote_kept.Tie as tie
 
-promote-at-requires : tie.Need-promote-at-requires
-promote-at-requires c κs = tt
+promote-requires : tie.Need-promote-requires
+promote-requires c κs = tt
 
 outcome-number-requires : tie.Need-outcome-number-requires
 outcome-number-requires c κs = tt
@@ -25,13 +25,13 @@ same-length-5 : tie.Need-same-length-5
 same-length-5 c = search needs
 
 returns : tie.Need-returns
-returns c = let p : tie.After-promote-at = search in gives-and-sets (c .outcome-number .ensures) (p .promote-at .ensures)
+returns c = let p : tie.After-promote = search in gives-and-sets (c .outcome-number .ensures) (p .promote .ensures)
 
 pub promote-kept-spec : {M : Type 1} → statement M
 promote-kept-spec =
     tie.close
     (tie.spec
-    promote-at-requires
+    promote-requires
     outcome-number-requires
     same-length
     same-length-2

@@ -2,9 +2,9 @@
 use native.Mathlib.Omega.{arith}
 use mathlib.Core.Path.{refl, sym, _∙_}
 use Rattle.rules.proofs.Places.{the}
-use Rattle.late_tails.proofs.Tails.{recomputed, left-alone}
-use Rattle.late_tails.proofs.recompute_missed.Statement.{statement}
-use Rattle.late_tails.proofs.recompute_missed.Tie as tie
+use Rattle.pending_tails.proofs.Tails.{recomputed, left-alone}
+use Rattle.pending_tails.proofs.recompute_missed.Statement.{statement}
+use Rattle.pending_tails.proofs.recompute_missed.Tie as tie
 
 misses-requires : tie.Need-misses-requires
 misses-requires c κs = tt

@@ -1,9 +1,9 @@
 use mathlib.Core.Path.{sym, ap}
-use Rattle.as_numbers.specs.Numbers.{anchorNumber}
+use Rattle.query_numbers.specs.Numbers.{anchorNumber}
 use Rattle.rules.specs.Answers.{anchorLocated}
 use borrow.Author.Needs.{needs}
-use Rattle.as_numbers.proofs.anchored.Statement.{statement}
-use Rattle.as_numbers.proofs.anchored.Tie as tie
+use Rattle.query_numbers.proofs.anchored.Statement.{statement}
+use Rattle.query_numbers.proofs.anchored.Tie as tie
 
 enum-known-l : tie.Need-enum-known-l
 enum-known-l c = search needs

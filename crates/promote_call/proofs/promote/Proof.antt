@@ -4,8 +4,8 @@ use mathlib.Core.Path.{refl, sym, _∙_}
 use borrow.Author.Tests.{not-true, not-false}
 use Rattle.rules.proofs.Places.{the}
 use Rattle.promote_call.proofs.Promoted.{misshapen, no-block, not-next, raised}
-use Rattle.promote_call.proofs.promote_at.Statement.{statement}
-use Rattle.promote_call.proofs.promote_at.Tie as tie
+use Rattle.promote_call.proofs.promote.Statement.{statement}
+use Rattle.promote_call.proofs.promote.Tie as tie
 
 is-shaped-requires : tie.Need-is-shaped-requires
 is-shaped-requires c κs = tt
@@ -114,8 +114,8 @@ returns-4 c =
     let s = e .before .is-shaped in
     raised _ _ (sym (s .ensures) ∙ not-false (s .result) (e .if1 .left)) (sym (o .ensures) ∙ not-false (o .result) (f .if2 .left)) _ (sym (n .ensures) ∙ not-false (n .result) (g .if3 .left)) (r .raise .ensures)
 
-pub promote-at-spec : {M : Type 1} → statement M
-promote-at-spec =
+pub promote-spec : {M : Type 1} → statement M
+promote-spec =
     tie.close
     (tie.spec
     is-shaped-requires

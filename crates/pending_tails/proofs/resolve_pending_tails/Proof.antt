@@ -2,9 +2,9 @@
 use native.Mathlib.Omega.{arith}
 use mathlib.Core.Path.{refl, sym, _∙_}
 use Rattle.rules.proofs.Places.{the}
-use Rattle.late_tails.proofs.Tails.{resolved, gone}
-use Rattle.late_tails.proofs.resolve_pending_tails.Statement.{statement}
-use Rattle.late_tails.proofs.resolve_pending_tails.Tie as tie
+use Rattle.pending_tails.proofs.Tails.{resolved, gone}
+use Rattle.pending_tails.proofs.resolve_pending_tails.Statement.{statement}
+use Rattle.pending_tails.proofs.resolve_pending_tails.Tie as tie
 
 abbrev linked : tie.After-recompute-missing → tie.After-link-tails
 linked c = search

@@ -2,7 +2,7 @@
 ghost use mathlib.Core.Path.{_≡_};
 ghost use Rattle.rules.specs.Records.{statusNumber};
 ghost use Rattle.rules.specs.Answers.{refusalNumber, slotFound, headFound, countGot, statusGot, anchorLocated};
-ghost use Rattle.as_numbers.specs.Numbers.{orNone, yes, anchorNumber};
+ghost use Rattle.query_numbers.specs.Numbers.{orNone, yes, anchorNumber};
 use rules::BlockSlot;
 use rules::BlockStatus;
 use rules::Counted;

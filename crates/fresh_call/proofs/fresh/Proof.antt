@@ -4,8 +4,8 @@ use mathlib.Core.Path.{refl, sym, _∙_}
 use borrow.Author.Tests.{not-true, not-false}
 use Rattle.rules.proofs.Places.{the}
 use Rattle.fresh_call.proofs.Emptied.{misshapen, emptied}
-use Rattle.fresh_call.proofs.fresh_at.Statement.{statement}
-use Rattle.fresh_call.proofs.fresh_at.Tie as tie
+use Rattle.fresh_call.proofs.fresh.Statement.{statement}
+use Rattle.fresh_call.proofs.fresh.Tie as tie
 
 abbrev blocks-done : tie.After-empty-heads → tie.After-empty-blocks
 blocks-done c = search
@@ -102,8 +102,8 @@ returns-2 c =
     let s = e .before .is-shaped in
     emptied _ _ _ (sym (s .ensures) ∙ not-false (s .result) (e .if1 .left)) (b .empty-blocks .ensures) (h .empty-heads .ensures)
 
-pub fresh-at-spec : {M : Type 1} → statement M
-fresh-at-spec =
+pub fresh-spec : {M : Type 1} → statement M
+fresh-spec =
     tie.close
     (tie.spec
     is-shaped-requires

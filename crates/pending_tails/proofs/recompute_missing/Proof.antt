@@ -9,8 +9,8 @@ use Rattle.rules.specs.Admission.{recomputeMissed, recomputeMissing}
 use Rattle.rules.proofs.Search.{in-order-none, in-order-next}
 use Rattle.rules.proofs.Places.{the}
 use Rattle.rules.proofs.Loops.{SameLengths, Turned, on-heads}
-use Rattle.late_tails.proofs.recompute_missing.Statement.{statement}
-use Rattle.late_tails.proofs.recompute_missing.Tie as tie
+use Rattle.pending_tails.proofs.recompute_missing.Statement.{statement}
+use Rattle.pending_tails.proofs.recompute_missing.Tie as tie
 
 abbrev recomputedBelow : (k block : ℕ) (hash previous : List ℕ) → Tables → Tables
 recomputedBelow k block hash previous t = withHeads t (inOrder (recomputeMissed (t .blocks) block hash previous) k (t .heads))

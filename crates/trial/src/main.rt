@@ -1,5 +1,5 @@
 // A trial: what is read from standard input is fed to a session, and what it prints is written.
-use trial_session::CHUNK;
+use trial_lines::CHUNK;
 use trial_session::ROOM;
 use trial_session::Trial;
 use trial_session::close;

@@ -1,4 +1,5 @@
 pub mod Bytes
+pub mod Joined
 pub mod Pieces
 pub mod Places
 pub mod ReadBack

@@ -4,10 +4,11 @@ use mathlib.Core.List.{List, [], _∷_, _++_, flatten}
 use mathlib.Core.Logic.{_≢_}
 use Prim.Native.Nat.{ℕ, zero, suc, _+_, _-_, _/_, _<_, _≤_, min, max}
 use native.Mathlib.Nat.{add-zero}
+use native.Mathlib.Numerals.{add-one}
 use native.Mathlib.Omega.{arith}
 use borrow.Author.Tests.{lt-ltb, le-ltb}
-use lib.ListN.{length, set, length-append}
-use lib.Seq.{sets, set-out, length-sets}
+use lib.ListN.{length, getD, set, take, drop, length-append}
+use lib.Seq.{sets, sets-eq, set-out, length-sets, take-suc, take-all}
 use Rattle.rules.proofs.Splits.{less?}
 use Rattle.trial_lines.specs.Writing.{place, digit, digitsIn}
 
@@ -52,6 +53,20 @@ put-then l m o xs ys at r s (e, f) (g, h) =
 pub put-none : (l : List ℕ) (at : ℕ) → Put l at [] l at
 unfolding place
 put-none l at = (refl, omega arith)
+
+-- with room for all of it
+pub sets-front : (xs l : List ℕ) → length xs ≤ length l → sets l 0 xs ≡ xs ++ drop (length xs) l
+sets-front xs l h = let z : 0 + length xs ≡ length xs = omega arith in sets-eq xs l 0 (omega arith) ∙ rw z
+
+-- ---- a text, byte by byte
+
+pub put-more : (l m o text : List ℕ) (at r s i byte : ℕ) → i < length text → byte ≡ getD text i 0
+    → Put l at (take i text) m r → Put m r (byte ∷ []) o s → Put l at (take (i + 1) text) o s
+put-more l m o text at r s i byte h e p q =
+    rw (add-one, take-suc text i 0 h, ← e) (put-then l m o (take i text) (byte ∷ []) at r s p q)
+
+pub put-all : (l m text : List ℕ) (at r i : ℕ) → length text ≤ i → Put l at (take i text) m r → Put l at text m r
+put-all l m text at r i h p = rw (take-all i text h) at p
 
 -- a place of a function's code, by its type
 abbrev pub the : (A : Type 0) → A → A

@@ -10,7 +10,7 @@ use Rattle.rules.specs.Records.{NONE}
 use Rattle.rules.proofs.Splits.{split}
 use Rattle.trial_lines.specs.Writing.{digit, digitsIn, digits, hex, field, reference, numberLine, requestLine, blockLine, headLine}
 
-digits-short : (places n : ℕ) → length (digitsIn places n) ≤ places
+pub digits-short : (places n : ℕ) → length (digitsIn places n) ≤ places
 unfolding digitsIn
 digits-short zero n = omega arith
 digits-short (suc places) n =

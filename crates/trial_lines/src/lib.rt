@@ -3,6 +3,7 @@
 // or too many, a hash that is not two lower-case hexadecimal digits, and a number that does not fit its field. Numbers
 // have 32 bits, times 64; leading zeros are read. The end of the line is no part of what is read here.
 pub mod answers;
+pub mod begun;
 pub mod fields;
 pub mod lines;
 pub mod numbers;
@@ -11,6 +12,9 @@ pub mod text;
 
 use rules::BlockSlot;
 use rules::Sequence;
+
+// How many bytes of input are taken at once.
+pub const CHUNK: usize = 8192;
 
 // What a line asks for. A hash is the byte that it has 32 times.
 pub enum Line {

@@ -2,7 +2,7 @@
 ghost use mathlib.Core.Path.{_≡_};
 ghost use Prim.Native.Nat.{_+_, _*_, _-_};
 ghost use lib.Dec.{leb};
-ghost use Rattle.trial_lines.specs.Reading.{isDigit, number, hexDigit, hashByte, timeMost, wordMost};
+ghost use Rattle.trial_lines.specs.Reading.{isDigit, allDigits, number, hexDigit, hashByte, timeMost, wordMost};
 ghost use Rattle.trial_lines.specs.Answers.{timeRead, wordRead, byteRead};
 use crate::Byte;
 use crate::Time;
@@ -35,6 +35,20 @@ fn fits(n: u64, digit: u64, most: u64) -> bool
         return false;
     }
     digit <= most - n * 10
+}
+
+// Whether every byte is a decimal digit.
+pub fn all_digits(bytes: &[u8]) -> bool
+    ensures { λ r. ⌜ r ≡ allDigits (now (bytes .entry)) ⌝ }
+{
+    let mut i = 0;
+    while i < bytes.len() {
+        if !is_digit(bytes[i]) {
+            return false;
+        }
+        i += 1;
+    }
+    true
 }
 
 // One decimal digit or more, of a value no greater than the most; anything else is unread.

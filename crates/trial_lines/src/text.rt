@@ -20,6 +20,20 @@ pub fn put(out: &mut [u8], at: usize, byte: u8) -> usize
     at
 }
 
+// A text.
+pub fn put_text(out: &mut [u8], at: usize, text: &[u8]) -> usize
+    ensures { λ r. ⌜ (now (out .exit) ≡ sets (now (out .entry)) at (now (text .entry)))
+        × (r ≡ place (length (now (out .entry))) at (length (now (text .entry)))) ⌝ }
+{
+    let mut next = at;
+    let mut i = 0;
+    while i < text.len() {
+        next = put(out, next, text[i]);
+        i += 1;
+    }
+    next
+}
+
 // The last decimal digit of a number.
 fn digit(n: u64) -> u8
     ensures { λ r. ⌜ r ≡ digitRule n ⌝ }

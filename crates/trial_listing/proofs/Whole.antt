@@ -1,20 +1,11 @@
 -- What 01's own trial prints at the end ("One trial whole"), from the tables that it leaves.
 use mathlib.Core.Path.{_≡_, refl}
 use mathlib.Core.List.{List, [], _∷_}
-use Prim.Native.Nat.{ℕ, zero, suc}
-use Prim.Native.Char.{code}
-use Prim.Native.String.{String, len, charAt}
+use Prim.Native.Nat.{ℕ}
 use Rattle.rules.specs.Records.{NONE, slotsOf, occupied, used, active, isConnected}
+use Rattle.trial_lines.specs.Text.{bytesFrom, bytes}
 use Rattle.trial_lines.specs.Writing.{digitsIn, digits, field, reference, blockLine, headLine}
 use Rattle.trial_listing.specs.Listing.{blockShown, headShown, linesBelow, listingOf}
-
--- a text, byte by byte
-unfoldable pub bytesFrom : (left : ℕ) → String → (place : ℕ) → List ℕ
-bytesFrom zero text place = []
-bytesFrom (suc left) text place = code (charAt text place) ∷ bytesFrom left text (suc place)
-
-unfoldable pub bytes : String → List ℕ
-bytes text = bytesFrom (len text) text 0
 
 listed : List ℕ
 listed =

@@ -11,12 +11,13 @@ use Rattle.rules.specs.Records.{Tables}
 use Rattle.rules.specs.Answers.{Answer, refused, done}
 use Rattle.rules.specs.Calls.{State, Stepped, stateOf, answering, refuse, shaped, freshState, fresh, blocksIn, headsIn}
 use Rattle.rules.proofs.Splits.{split}
+use Rattle.trial_lines.specs.Begun.{soFar, begunOf}
 use Rattle.trial_lines.specs.Writing.{place}
 use Rattle.trial_lines.specs.declared.Line.{Line}
 use Rattle.trial_lines.specs.declared.Line.the-variants.{Fresh, Admit, Promote, Remove, Timer, Restart, Unread}
 use Rattle.trial_calls.specs.Calling.{called, lineSaid, isRefused, renews, Tells}
 use Rattle.trial_fronts.specs.Fronts.{front, behind, before}
-use Rattle.trial_session.specs.Session.{Session, soFar, unlessRefused, lineDone, lineFed}
+use Rattle.trial_session.specs.Session.{Session, unlessRefused, lineDone, lineFed}
 use Rattle.trial_session.specs.Held.{arrayBlocks, arrayHeads, Held, heldOf, stateIn, begunIn, sessionIn, asked, sizesAfter, trialAfter, heldLine, Comes}
 use Rattle.trial_session.specs.declared.Trial.{Trial}
 use Rattle.trial_session.proofs.Sized.{Sized, sized-front, sized-fresh, front-shape, shaped-within}
@@ -65,7 +66,7 @@ comes : (t u : Tables) (bytes : List ℕ) (z : Trial) (line : Line) (out written
     → stateOf (front (a .n) (a .m) u) b ≡ d .after → behind (a .n) (a .m) u ≡ behind (a .n) (a .m) t
     → written ≡ sets out at (lineSaid line (d .answer)) → next ≡ place (length out) at (length (lineSaid line (d .answer)))
     → Comes (heldLine (heldOf t bytes z) line) (lineFed (stateIn (heldOf t bytes z)) line) out at (heldOf u bytes (sizesAfter a b)) written next
-unfolding heldLine lineFed sizesAfter stateIn begunIn sessionIn
+unfolding heldLine lineFed sizesAfter stateIn begunOf begunIn sessionIn
 comes t u bytes z line out written at next a b d is after left rest text end =
     let f : front (a .n) (a .m) u ≡ d .after .tables = ap (λ (s : State). s .tables) left in
     let l = laid-is (a .n) (a .m) t u (d .after .tables) f rest in

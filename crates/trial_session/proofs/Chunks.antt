@@ -4,11 +4,11 @@ use mathlib.Core.List.{List, [], _∷_, _++_, append-assoc, append-nil, flatten}
 use Prim.Native.Nat.{ℕ, _+_, _<_, _≤_, min}
 use native.Mathlib.Numerals.{add-one}
 use native.Mathlib.Omega.{arith}
-use lib.ListN.{length, getD, take, drop}
-use lib.Seq.{sets, sets-eq, take-suc, take-all}
+use lib.ListN.{length, getD, take}
+use lib.Seq.{sets, take-suc, take-all}
 use Rattle.rules.proofs.Splits.{less?}
 use Rattle.trial_lines.specs.Writing.{place}
-use Rattle.trial_lines.proofs.Places.{put-none, put-then}
+use Rattle.trial_lines.proofs.Places.{put-none, put-then, sets-front}
 use Rattle.trial_session.specs.Session.{Session, Fed, fedByte, fed, closing, start, transcript, inChunks}
 use Rattle.trial_session.specs.Held.{Held, sessionIn, heldByte, heldFed, Comes, Fills}
 
@@ -91,9 +91,6 @@ comes-all h g bytes i most out written next c is =
     rw e at c
 
 -- ---- with room for all
-
-pub sets-front : (xs l : List ℕ) → length xs ≤ length l → sets l 0 xs ≡ xs ++ drop (length xs) l
-sets-front xs l h = let z : 0 + length xs ≡ length xs = omega arith in sets-eq xs l 0 (omega arith) ∙ rw z
 
 pub fills : (k g : Held) (f : Fed) (out written : List ℕ) (next : ℕ) → length (f .said) ≤ length out
     → Comes k f out 0 g written next → Fills k f out g written next

@@ -6,12 +6,11 @@ use native.Mathlib.Omega.{arith}
 use lib.ListN.{length, take, length-take}
 use Rattle.rules.specs.Records.{Tables}
 use Rattle.trial_lines.specs.Writing.{place}
-use Rattle.trial_lines.proofs.Places.{Put, put-then}
+use Rattle.trial_lines.proofs.Places.{Put, put-then, sets-front}
 use Rattle.trial_fronts.specs.Fronts.{front}
 use Rattle.trial_listing.specs.Listing.{listingOf}
 use Rattle.trial_session.specs.Session.{Session, lastEnded, tablesListed, closing}
 use Rattle.trial_session.specs.Held.{arrayBlocks, arrayHeads, Held, stateIn, sessionIn, heldClosed, room, Comes, Closes}
-use Rattle.trial_session.proofs.Chunks.{sets-front}
 use Rattle.trial_session.proofs.Room.{closing-short}
 
 abbrev shown : (n m : ℕ) → Tables → List ℕ

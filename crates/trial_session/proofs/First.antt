@@ -6,6 +6,7 @@ use Prim.Native.Nat.{ℕ}
 use Rattle.rules.specs.Records.{Tables, emptyBlocks, emptyHeads, blocksFit, headsFit}
 use Rattle.rules.specs.Calls.{shaped, freshState, admit, promote, remove, timer, restart, step}
 use Rattle.rules.proofs.Splits.{true-not-false}
+use Rattle.trial_lines.specs.Begun.{begunOf}
 use Rattle.trial_lines.specs.Writing.{numberLine}
 use Rattle.trial_lines.specs.declared.Line.{Line}
 use Rattle.trial_lines.specs.declared.Line.the-variants.{Fresh, Admit, Promote, Remove, Timer, Restart, Unread}
@@ -16,7 +17,7 @@ use Rattle.trial_session.specs.Held.{heldOf, newTrial, stateIn, begunIn,
 
 -- whatever stands in the arrays
 pub starts : (t : Tables) (line : List ℕ) → sessionIn (heldOf t line newTrial) ≡ start
-unfolding sessionIn stateIn begunIn front start freshState emptyBlocks emptyHeads
+unfolding sessionIn stateIn begunIn begunOf front start freshState emptyBlocks emptyHeads
 starts t line = refl
 
 abbrev pub asksCall : Line → Bool

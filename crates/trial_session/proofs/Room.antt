@@ -8,6 +8,7 @@ use lib.ListN.{length, take, length-append, length-take}
 use Rattle.rules.specs.Answers.{Answer, refused, done, slot, freed, request, noneDue, dueAt, neverDue}
 use Rattle.rules.specs.Calls.{State}
 use Rattle.rules.proofs.Splits.{split}
+use Rattle.trial_lines.specs.Begun.{hasBegun, chunkMost}
 use Rattle.trial_lines.specs.Writing.{letterLine, noneDueLine}
 use Rattle.trial_lines.specs.Said.{said}
 use Rattle.trial_lines.specs.declared.Line.{Line}
@@ -15,8 +16,8 @@ use Rattle.trial_lines.specs.declared.Line.the-variants.{Fresh, Admit, Promote,
 use Rattle.trial_lines.proofs.Short.{number-short, request-short}
 use Rattle.trial_calls.specs.Calling.{doneSaid, lineSaid}
 use Rattle.trial_listing.proofs.Listed.{listing-short}
-use Rattle.trial_session.specs.Session.{Session, lineDone, lineFed, ended, fedByte, fed, hasBegun, lastEnded, tablesListed, closing}
-use Rattle.trial_session.specs.Held.{Held, sessionIn, heldFed, chunkMost, room, Comes, Fills}
+use Rattle.trial_session.specs.Session.{Session, lineDone, lineFed, ended, fedByte, fed, lastEnded, tablesListed, closing}
+use Rattle.trial_session.specs.Held.{Held, sessionIn, heldFed, room, Comes, Fills}
 use Rattle.trial_session.proofs.Chunks.{fills}
 
 said-short : (whenDone : List ℕ) (answer : Answer) → length whenDone ≤ 96 → length (said whenDone answer) ≤ 96

@@ -13,12 +13,13 @@ use Rattle.rules.specs.Removal.{recount, recountAll, listed, headFreed, takesOv
 use Rattle.rules.specs.Rebuild.{rebuildAt, rebuildHeads, rebuilt, restarted}
 use Rattle.rules.specs.Timer.{due, mayAsk, asksBefore, chosen, claimed, askAt, recovery, markRequested}
 use Rattle.rules.specs.Calls.{shaped, freshState, admitAt, admit, isNext, promote, holdsActive, remove, asked, timer, restart, step, fresh}
+use Rattle.trial_lines.specs.Begun.{longer, hasBegun, lineBegun}
 use Rattle.trial_lines.specs.Reading.{fieldLength, allDigits, valueFrom, number, hashByte, freshOf, admitOf, promoteOf, removeOf, timerOf, restartOf, parse}
+use Rattle.trial_lines.specs.Text.{bytesFrom as textFrom, bytes}
 use Rattle.trial_lines.specs.Writing.{digitsIn, digits, hex, field, reference, letterLine, numberLine, requestLine, noneDueLine, blockLine, headLine}
 use Rattle.trial_listing.specs.Listing.{blockShown, headShown, linesBelow, listingOf}
-use Rattle.trial_listing.proofs.Whole.{bytesFrom as textFrom, bytes}
 use Rattle.trial_calls.specs.Calling.{called, doneSaid, lineSaid, isRefused}
-use Rattle.trial_session.specs.Session.{unlessRefused, lineDone, lineFed, lineBegun, longer, ended, fedByte, fed, hasBegun, lastEnded, tablesListed, closing, start, transcript}
+use Rattle.trial_session.specs.Session.{unlessRefused, lineDone, lineFed, ended, fedByte, fed, lastEnded, tablesListed, closing, start, transcript}
 
 as-said : transcript (bytes "N 4 2\nA 5 0a 09 1\nA 6 0b 0a 2\nA 6 0c 0a 3\nT 10 5\nP 0\nA 6 0b 0a 4\nA 7 0d 0e 20\n")
     ≡ bytes "A 0\nA 1\nA 2\nT 0 4 09\nP 0\nE 6\nA 3\nB 0 5 - 1 1\nB 2 6 0 1 0\nB 3 7 - 1 0\nH 0 3 S 3\nH 1 2 C 0\n"

@@ -3,18 +3,19 @@
 use mathlib.Core.Path.{_≡_}
 use mathlib.Core.List.{List, [], _∷_, _++_}
 use Prim.Native.Nat.{ℕ, _+_, _*_, min}
-use lib.Dec.{eqb, leb}
-use lib.ListN.{length, set, take, drop}
+use lib.Dec.{eqb}
+use lib.ListN.{length, set, drop}
 use lib.Seq.{sets}
 use Rattle.rules.specs.Common.{if_then_else_}
 use Rattle.rules.specs.Records.{Tables, NONE}
 use Rattle.rules.specs.Calls.{State, Stepped, stateOf, maxBlocks, maxHeads}
+use Rattle.trial_lines.specs.Begun.{lineMost, chunkMost, Begun, hasBegun, lineBegun, begunOf}
 use Rattle.trial_lines.specs.Writing.{place}
 use Rattle.trial_lines.specs.declared.Line.{Line}
 use Rattle.trial_lines.specs.declared.Line.the-variants.{Fresh, Admit, Promote, Remove, Timer, Restart, Unread}
 use Rattle.trial_calls.specs.Calling.{renews}
 use Rattle.trial_fronts.specs.Fronts.{front, behind, before}
-use Rattle.trial_session.specs.Session.{lineDone, lineMost, Begun, soFar, tooLong, Session, Fed, lineBegun, hasBegun, closing}
+use Rattle.trial_session.specs.Session.{lineDone, Session, Fed, closing}
 use Rattle.trial_session.specs.declared.Trial.{Trial}
 
 -- ---- what is held
@@ -41,9 +42,8 @@ heldOf arrays line trial = record { arrays = arrays; line = line; trial = trial 
 unfoldable pub stateIn : Held → State
 stateIn h = stateOf (front (h .trial .n) (h .trial .m) (h .arrays)) (h .trial .active .0)
 
--- more bytes than the buffer has are too many
 unfoldable pub begunIn : Held → Begun
-begunIn h = if leb (h .trial .begun) lineMost then soFar (take (h .trial .begun) (h .line)) else tooLong
+begunIn h = begunOf (h .line) (h .trial .begun)
 
 unfoldable pub sessionIn : Held → Session
 sessionIn h = record { state = stateIn h; begun = begunIn h }
@@ -95,12 +95,9 @@ heldFed h (byte ∷ bytes) = heldFed (heldByte h byte) bytes
 unfoldable pub heldClosed : Held → Held
 heldClosed h = if hasBegun (begunIn h) then heldEnded h else h
 
--- how many bytes are taken at once, and how many what is printed then, or at the end, may have: 96 for a last line and for each slot
-abbrev pub chunkMost : ℕ
-chunkMost = 1024
-
+-- how many bytes what is printed, of a chunk or at the end, may have: a byte makes no more than 96, and a slot at the end
 abbrev pub room : ℕ
-room = 96 + 96 * (arrayBlocks + arrayHeads)
+room = 96 * chunkMost
 
 -- ---- what a function of the session leaves
 

@@ -1,13 +1,11 @@
 -- A trial (01, "One trial whole"): what a line does to a session, what a byte does, and what a whole input prints.
-use mathlib.Core.Bool.{Bool, true, false}
 use mathlib.Core.List.{List, [], _∷_, _++_}
 use Prim.Native.Nat.{ℕ}
-use lib.Dec.{eqb, ltb}
-use lib.ListN.{length}
+use lib.Dec.{eqb}
 use Rattle.rules.specs.Common.{if_then_else_}
 use Rattle.rules.specs.Records.{Tables}
 use Rattle.rules.specs.Calls.{State, Stepped, answering, freshState, fresh}
-use Rattle.trial_lines.specs.Reading.{parse}
+use Rattle.trial_lines.specs.Begun.{Begun, soFar, longer, hasBegun, lineBegun}
 use Rattle.trial_lines.specs.declared.Line.{Line}
 use Rattle.trial_lines.specs.declared.Line.the-variants.{Fresh, Admit, Promote, Remove, Timer, Restart, Unread}
 use Rattle.trial_calls.specs.Calling.{called, lineSaid, isRefused}
@@ -31,11 +29,6 @@ lineDone s Unread = called s Unread
 
 -- ---- a byte
 
--- what has come of a line
-pub data Begun : Type 0 where
-  soFar : List ℕ → Begun
-  tooLong : Begun
-
 pub record Session : Type 0 where
   pub state : State
   pub begun : Begun
@@ -50,18 +43,6 @@ unfoldable pub lineFed : State → Line → Fed
 lineFed s line =
     let d = lineDone s line in
     record { session = record { state = d .after; begun = soFar [] }; said = lineSaid line (d .answer) }
-
--- a line has at most 128 bytes before its end
-abbrev pub lineMost : ℕ
-lineMost = 128
-
-unfoldable pub lineBegun : Begun → Line
-lineBegun (soFar bytes) = parse bytes
-lineBegun tooLong = Unread
-
-unfoldable pub longer : Begun → ℕ → Begun
-longer (soFar bytes) byte = if ltb (length bytes) lineMost then soFar (bytes ++ byte ∷ []) else tooLong
-longer tooLong byte = tooLong
 
 unfoldable pub ended : Session → Fed
 ended s = lineFed (s .state) (lineBegun (s .begun))
@@ -80,11 +61,6 @@ fed s (byte ∷ bytes) =
     record { session = g .session; said = f .said ++ g .said }
 
 -- ---- the end
-
-unfoldable pub hasBegun : Begun → Bool
-hasBegun (soFar []) = false
-hasBegun (soFar (byte ∷ bytes)) = true
-hasBegun tooLong = true
 
 -- the last line may lack its end
 unfoldable pub lastEnded : Session → Fed

@@ -5,18 +5,18 @@ mod lines;
 ghost use mathlib.Core.Path.{_≡_};
 ghost use lib.ListN.{take};
 ghost use Rattle.rules.specs.Records.{before, after};
+ghost use Rattle.trial_lines.specs.Begun.{chunkMost};
 ghost use Rattle.trial_session.specs.Session.{fed};
-ghost use Rattle.trial_session.specs.Held.{heldOf, newTrial, sessionIn, heldFed, chunkMost, Fills, Closes};
+ghost use Rattle.trial_session.specs.Held.{heldOf, newTrial, sessionIn, heldFed, Fills, Closes};
 use lines::end_last;
 use lines::take_bytes;
 use rules::BlockSlot;
 use trial_fronts::list_front;
+use trial_lines::CHUNK;
 
-// How many bytes are taken at once, and how many what is printed may have: a byte makes no more than 96, and the end of a trial no
-// more than 96 for each slot and for a last line.
-pub const CHUNK: usize = 1024;
-
-pub const ROOM: usize = 104736;
+// How many bytes what is printed may have: a byte makes no more than 96, and the end of a trial no more than 96 for each slot and for a
+// last line.
+pub const ROOM: usize = 786432;
 
 // How many slots of the arrays are in use, the record, and how many bytes of a line have come, 129 for too many.
 pub struct Trial {

@@ -1,12 +1,13 @@
 // Bytes joined to lines, and lines done.
 ghost use mathlib.Core.Path.{_≡_};
 ghost use mathlib.Core.List.{List};
-ghost use Prim.Native.Nat.{ℕ, _+_, min};
+ghost use Prim.Native.Nat.{ℕ, min};
 ghost use lib.Dec.{leb};
-ghost use lib.ListN.{length, take, set};
+ghost use lib.ListN.{length, take};
 ghost use Rattle.rules.specs.Common.{if_then_else_};
 ghost use Rattle.rules.specs.Records.{before, after};
-ghost use Rattle.trial_session.specs.Session.{soFar, tooLong, lineBegun, lineFed, fedByte, fed, lastEnded};
+ghost use Rattle.trial_lines.specs.Begun.{soFar, tooLong, lineBegun};
+ghost use Rattle.trial_session.specs.Session.{lineFed, fedByte, fed, lastEnded};
 ghost use Rattle.trial_session.specs.Held.{heldOf, stateIn, sessionIn, asked as askedRule, sizesAfter, heldLine, heldByte, heldFed, heldClosed, Comes};
 use crate::Printed;
 use crate::Trial;
@@ -14,6 +15,7 @@ use cells::least;
 use trial_calls::Told;
 use trial_fronts::answer_front;
 use trial_lines::Line;
+use trial_lines::begun::join;
 use trial_lines::read::read_line;
 
 // The sizes that a line's call is given: its own if it is fresh.
@@ -68,17 +70,6 @@ fn line_of(line: &[u8], begun: usize) -> Line
         return Line::Unread;
     }
     read_line(&line[0..begun])
-}
-
-// A byte that finds no room is one too many.
-fn join(line: &mut [u8], begun: usize, byte: u8) -> usize
-    ensures { λ r. ⌜ (now (line .exit) ≡ set (now (line .entry)) begun byte) × (r ≡ min (begun + 1) (length (now (line .entry)) + 1)) ⌝ }
-{
-    if line.len() <= begun {
-        return line.len() + 1;
-    }
-    line[begun] = byte;
-    begun + 1
 }
 
 fn end_line(

@@ -3,7 +3,7 @@ use borrow.Author.Needs.{needs}
 use mathlib.Core.Path.{_≡_}
 use native.Mathlib.Omega.{arith}
 use lib.ListN.{length}
-use Rattle.trial_session.specs.Held.{chunkMost}
+use Rattle.trial_lines.specs.Begun.{chunkMost}
 use Rattle.trial.proofs.main.Statement.{statement}
 use Rattle.trial.proofs.main.Tie as tie
 

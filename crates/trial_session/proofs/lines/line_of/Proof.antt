@@ -6,7 +6,7 @@ use native.Mathlib.Omega.{arith}
 use lib.ListN.{length}
 use borrow.Author.Tests.{le-leb, lt-leb}
 use Rattle.rules.proofs.Places.{the}
-use Rattle.trial_session.specs.Session.{lineBegun}
+use Rattle.trial_lines.specs.Begun.{lineBegun}
 use Rattle.trial_session.proofs.lines.line_of.Statement.{statement}
 use Rattle.trial_session.proofs.lines.line_of.Tie as tie
 

@@ -3,8 +3,8 @@ use borrow.Author.Needs.{needs}
 use mathlib.Core.Path.{sym}
 use native.Mathlib.Omega.{arith}
 use lib.Seq.{set-out}
-use Rattle.trial_session.proofs.lines.join.Statement.{statement}
-use Rattle.trial_session.proofs.lines.join.Tie as tie
+use Rattle.trial_lines.proofs.begun.join.Statement.{statement}
+use Rattle.trial_lines.proofs.begun.join.Tie as tie
 
 add-result : tie.Need-add-result
 add-result c = search needs

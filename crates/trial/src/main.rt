@@ -1,81 +1,52 @@
-// A trial: what is read from standard input is fed to a session, and what it prints is written.
-use trial_lines::CHUNK;
-use trial_session::ROOM;
-use trial_session::Trial;
-use trial_session::close;
-use trial_session::feed;
+// A trial: lines of calls from standard input or from a file, what they print to standard output, what is wrong to standard error.
+mod help;
+mod run;
+mod streams;
 
-fn write_front(out: &[u8], length: usize) {
-    if length <= out.len() {
-        io::write_all(libc::STDOUT_FILENO, &out[0..length]);
+use help::help;
+use run::run;
+use streams::write_whole;
+
+fn tell(text: &[u8]) {
+    write_whole(libc::STDERR_FILENO, text);
+}
+
+fn run_file(path: &[u8]) {
+    let fd = os::open_read(path);
+    if fd < 0 {
+        os::fail(path);
+        return;
+    }
+    run(fd, path);
+    libc::close(fd);
+}
+
+// A file whose name begins with `-` is given as `./-`.
+fn run_argument(argument: &[u8]) {
+    if check::same(argument, b"--help") {
+        help();
+    } else if cells::byte_at(argument, 0) == b'-' {
+        tell(b"trial: no such option; trial --help says what there is\n");
+    } else {
+        run_file(argument);
     }
 }
 
-// Writes the first bytes of a buffer to standard output.
-fn say(out: &[u8; ROOM], length: usize) {
-    write_front(out, length);
-}
-
-// Nothing says that the input ends, so the turns are counted down from a number that no run uses up.
 fn main() {
-    let mut hashes = [0u8; 32800];
-    let mut parents = [0u32; 1025];
-    let mut sequences = [0u32; 1025];
-    let mut counts = [0u8; 1025];
-    let mut flags = [0u8; 1025];
-    let mut tips = [0u32; 65];
-    let mut tails = [0u32; 65];
-    let mut missing = [0u8; 2080];
-    let mut requested = [0u64; 65];
-    let mut arrivals = [0u64; 65];
-    let mut connected = [0u8; 65];
-    let mut line = [0u8; 128];
-    let mut chunk = [0u8; CHUNK];
-    let mut out = [0u8; ROOM];
-    let mut trial = Trial::start();
-    let mut turns = u64::MAX;
-    while turns > 0 {
-        turns -= 1;
-        let got = libc::read(libc::STDIN_FILENO, &mut chunk);
-        if got <= 0 {
-            break;
-        }
-        let n = io::count(got, &chunk);
-        let printed = feed(
-            &mut hashes,
-            &mut parents,
-            &mut sequences,
-            &mut counts,
-            &mut flags,
-            &mut tips,
-            &mut tails,
-            &mut missing,
-            &mut requested,
-            &mut arrivals,
-            &mut connected,
-            &mut line,
-            trial,
-            &chunk[0..n],
-            &mut out,
-        );
-        trial = printed.trial;
-        say(&out, printed.at);
+    let count = os::arg_count();
+    if count <= 1 {
+        run(libc::STDIN_FILENO, b"standard input");
+        return;
     }
-    let length = close(
-        &mut hashes,
-        &mut parents,
-        &mut sequences,
-        &mut counts,
-        &mut flags,
-        &mut tips,
-        &mut tails,
-        &mut missing,
-        &mut requested,
-        &mut arrivals,
-        &mut connected,
-        &line,
-        trial,
-        &mut out,
-    );
-    say(&out, length);
+    if count > 2 {
+        tell(b"trial: more than one argument; trial --help says what there is\n");
+        return;
+    }
+    let mut argument = io::buffer();
+    let length = os::arg(1, &mut argument);
+    if os::errno() != 0 {
+        os::fail(b"trial: its argument");
+        return;
+    }
+    run_argument(&argument[0..length]);
 }

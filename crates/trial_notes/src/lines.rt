@@ -1,6 +1,5 @@
 // Bytes joined to lines, and lines noted.
 ghost use mathlib.Core.Path.{_≡_};
-ghost use Prim.Native.Nat.{min};
 ghost use lib.Dec.{leb};
 ghost use lib.ListN.{length, take};
 ghost use Rattle.rules.specs.Common.{if_then_else_};
@@ -13,6 +12,7 @@ use crate::Noting;
 use crate::Reason;
 use crate::faults::fault;
 use crate::text::put_note;
+use cells::least;
 use trial_lines::begun::join;
 
 fn fault_of(line: &[u8], begun: usize) -> Fault
@@ -57,12 +57,6 @@ fn take_byte(line: &mut [u8; 128], noting: Noting, byte: u8, out: &mut [u8], at:
         },
         at,
     }
-}
-
-fn least(a: usize, b: usize) -> usize
-    ensures { λ r. ⌜ r ≡ min a b ⌝ }
-{
-    if a < b { a } else { b }
 }
 
 // One byte after the other, no more than `most`.

@@ -210,7 +210,11 @@ class Proof:
 
     def sibling(self, need, answers):
         same_place = (other for other in self.lengths if other.place == need.place and other.name in answers)
-        return next((other for other in same_place if self.parameter(other) == self.options.after), None)
+        return next((other for other in same_place if self.parameter(other) == self.after(need)), None)
+
+    def after(self, need):
+        """The slice that a new one is lent as."""
+        return self.options.after.get(self.parameter(need))
 
     def as_sibling(self, need, sibling, answers):
         """The sibling's answer with the new parameter in the sibling's place."""
@@ -221,7 +225,7 @@ class Proof:
         def shifted(match):
             function, place = self.called(match.group(1), self.now), match.group(3).count(".1")
             names = function.names() if function else []
-            if place < len(names) and names[place] == self.options.after and self.parameter(need) in names:
+            if place < len(names) and names[place] == self.after(need) and self.parameter(need) in names:
                 place = names.index(self.parameter(need))
             return f"{match.group(1)} .{match.group(2)}{path_in_tuple(place)}"
 

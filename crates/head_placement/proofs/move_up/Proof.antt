@@ -1,5 +1,11 @@
 -- Tip and arrival time, then the caches.
 use native.Mathlib.Omega.{arith}
+use mathlib.Core.Path.{_≡_}
+use mathlib.Core.List.{List}
+use Prim.Native.Nat.{ℕ}
+use lib.ListN.{set}
+use Rattle.rules.specs.Records.{Tables, Caches, caches, withCaches, withHeads, withTips, withArrivals}
+use Rattle.rules.specs.Caches.{recompute}
 use Rattle.rules.specs.Admission.{moveUp}
 use Rattle.head_placement.proofs.move_up.Statement.{statement}
 use Rattle.head_placement.proofs.move_up.Tie as tie
@@ -55,13 +61,19 @@ same-length-6 c =
     let q = to-put-time p in
     omega (arith, p .recompute-caches .kept, q .put-time .kept, to-put-word q .put-word .kept)
 
-returns : tie.Need-returns
+-- the three steps as one, of any tables
+steps : (t : Tables) (tips arrivals : List ℕ) (c : Caches) (k block : ℕ) (previous : List ℕ) (arrival : ℕ)
+    → tips ≡ set (t .heads .tips) k block → arrivals ≡ set (t .heads .arrivals) k arrival
+    → c ≡ recompute (t .blocks .parents) (t .blocks .sequences) (t .blocks .flags) tips (caches (t .heads)) k block previous
+    → withHeads t (withCaches (withArrivals (withTips (t .heads) tips) arrivals) c) ≡ moveUp t k block previous arrival
 unfolding moveUp
+steps t tips arrivals c k block previous arrival e f g = rw (g, f, e)
+
+returns : tie.Need-returns
 returns c =
-    let put-word = let p : tie.After-put-word = search in p .put-word in
-    let put-time = let p : tie.After-put-time = search in p .put-time in
-    let recompute-caches = let p : tie.After-recompute-caches = search in p .recompute-caches in
-    rw (← put-word .ensures, ← put-time .ensures, ← recompute-caches .ensures)
+    let i : tie.After-recompute-caches = search in
+    let q = to-put-time i in
+    steps _ _ _ _ _ _ _ _ (to-put-word q .put-word .ensures) (q .put-time .ensures) (i .recompute-caches .ensures)
 
 pub move-up-spec : {M : Type 1} → statement M
 move-up-spec =

@@ -1,6 +1,6 @@
 //! The C entry points of the port's static libraries, declared and called. A slice passes as its
-//! pointer and its length; `[all]` is the eleven buffers in their order, each as one that may be
-//! written.
+//! pointer and its length; `[blocks]` is the buffers of the blocks in their order, and `[all]` those
+//! of the blocks and of the heads, each as one that may be written.
 
 /// Declares entry points as the port does, as in `name([all], u32, [u8], [mut u8]) -> u32`.
 macro_rules! entries {
@@ -8,9 +8,12 @@ macro_rules! entries {
         $($crate::entries::entries!($name () ($($answer)?) $($given)*);)*
     };
     ($name:ident ($($done:ty,)*) $answer:tt [all] $($rest:tt)*) => {
-        $crate::entries::entries!($name ($($done,)*) $answer
-            [mut u8] [mut u32] [mut u32] [mut u8] [mut u8]
+        $crate::entries::entries!($name ($($done,)*) $answer [blocks]
             [mut u32] [mut u32] [mut u8] [mut u64] [mut u64] [mut u8] $($rest)*);
+    };
+    ($name:ident ($($done:ty,)*) $answer:tt [blocks] $($rest:tt)*) => {
+        $crate::entries::entries!($name ($($done,)*) $answer
+            [mut u8] [mut u32] [mut u32] [mut u8] [mut u8] $($rest)*);
     };
     ($name:ident ($($done:ty,)*) $answer:tt [mut $item:ty] $($rest:tt)*) => {
         $crate::entries::entries!($name ($($done,)* *mut $item, usize,) $answer $($rest)*);
@@ -33,10 +36,14 @@ macro_rules! entries {
 macro_rules! call {
     ($entry:ident($($given:tt),*)) => { $crate::entries::call!($entry () $($given)*) };
     ($entry:ident ($($done:expr,)*) [all $t:ident] $($rest:tt)*) => {
-        $crate::entries::call!($entry ($($done,)*)
-            [mut $t.hashes] [mut $t.parents] [mut $t.sequences] [mut $t.counts] [mut $t.flags]
+        $crate::entries::call!($entry ($($done,)*) [blocks $t]
             [mut $t.tips] [mut $t.tails] [mut $t.missing] [mut $t.requested] [mut $t.arrivals]
             [mut $t.connected] $($rest)*)
+    };
+    ($entry:ident ($($done:expr,)*) [blocks $t:ident] $($rest:tt)*) => {
+        $crate::entries::call!($entry ($($done,)*)
+            [mut $t.hashes] [mut $t.parents] [mut $t.sequences] [mut $t.counts] [mut $t.flags]
+            $($rest)*)
     };
     ($entry:ident ($($done:expr,)*) [mut $slice:expr] $($rest:tt)*) => {
         $crate::entries::call!($entry ($($done,)* $slice.as_mut_ptr(), $slice.len(),) $($rest)*)

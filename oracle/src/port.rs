@@ -21,13 +21,9 @@ entries! {
     probe_set_head_ref_count([u32], [mut u8], u32, u8) -> u32;
     probe_set_on_active_chain([u32], [mut u8], u32, u32) -> u32;
     probe_set_status([u32], [mut u8], u32, u32) -> u32;
-    probe_insert_at(
-        [mut u8], [mut u32], [mut u32], [mut u8], [mut u8], u32, [u8], u32, u32, u8, u8
-    );
-    probe_insert(
-        [mut u8], [mut u32], [mut u32], [mut u8], [mut u8], [u8], u32, u32, u8, u8
-    ) -> u64;
-    probe_delete([mut u8], [mut u32], [mut u32], [mut u8], [mut u8], u32) -> u32;
+    probe_insert_at([blocks], u32, [u8], u32, u32, u8, u8);
+    probe_insert([blocks], [u8], u32, u32, u8, u8) -> u64;
+    probe_delete([blocks], u32) -> u32;
     probe_resolve_parent_ref([mut u32], u32, u32);
     probe_set_parent_ref([mut u32], [u32], u32, u32) -> u32;
     station_count([u32]) -> u32;
@@ -47,36 +43,14 @@ entries! {
         [u32], [u32], [u8], [u32], [mut u32], [mut u8], [mut u64], [mut u8]
     );
     probe_select_eviction_victim([u8], [u32], [u32], u32) -> u32;
-    probe_evict_one(
-        [mut u8], [mut u32], [mut u32], [mut u8], [mut u8],
-        [mut u32], [mut u32], [mut u8], [mut u64], [mut u64], [mut u8], u32
-    );
-    probe_rebuild_from_blocks(
-        [mut u8], [mut u32], [mut u32], [mut u8], [mut u8],
-        [mut u32], [mut u32], [mut u8], [mut u64], [mut u64], [mut u8], u64, u32
-    );
-    probe_insert_head(
-        [mut u8], [mut u32], [mut u32], [mut u8], [mut u8],
-        [mut u32], [mut u32], [mut u8], [mut u64], [mut u64], [mut u8],
-        u32, u64, u32, [u8], u32
-    );
-    probe_resolve_pending_tails(
-        [u8], [mut u32], [u32], [mut u8], [u8],
-        [mut u32], [mut u32], [mut u8], [mut u64], [mut u64], [mut u8], u32, [u8]
-    );
-    probe_on_block_admitted(
-        [mut u8], [mut u32], [mut u32], [mut u8], [mut u8],
-        [mut u32], [mut u32], [mut u8], [mut u64], [mut u64], [mut u8],
-        u32, u32, [u8], u64, u32
-    );
-    probe_refresh_tails(
-        [u8], [u32], [u32], [u8], [u8], [u32], [mut u32], [mut u8], [mut u64], [u64], [mut u8]
-    );
+    probe_evict_one([all], u32);
+    probe_rebuild_from_blocks([all], u64, u32);
+    probe_insert_head([all], u32, u64, u32, [u8], u32);
+    probe_resolve_pending_tails([all], u32, [u8]);
+    probe_on_block_admitted([all], u32, u32, [u8], u64, u32);
+    probe_refresh_tails([all]);
     probe_recompute_head_ref_counts([u32], [u32], [mut u8]);
-    probe_on_blocks_deleted(
-        [u8], [u32], [u32], [mut u8], [u8],
-        [mut u32], [mut u32], [mut u8], [mut u64], [mut u64], [mut u8], [u32], u32
-    );
+    probe_on_blocks_deleted([all], [u32], u32);
     probe_head_eligible_at(u64, u64) -> u64;
     probe_select_parent_recovery([u8], [u32], [u32], [u32], [u64], [u8], u64, u64) -> u64;
     probe_mark_requested([mut u64], u32, u64);
@@ -192,10 +166,7 @@ pub fn insert_at(
     count: u8,
     flags: u8,
 ) {
-    call!(probe_insert_at(
-        [mut t.hashes], [mut t.parents], [mut t.sequences], [mut t.counts], [mut t.flags],
-        slot, [hash], parent, sequence, count, flags
-    ))
+    call!(probe_insert_at([blocks t], slot, [hash], parent, sequence, count, flags))
 }
 
 /// 2^32 stands for the reserved sequence, and one more for a full table.
@@ -207,10 +178,7 @@ pub fn insert(
     count: u8,
     flags: u8,
 ) -> Result<u32, NotInserted> {
-    let answer = call!(probe_insert(
-        [mut t.hashes], [mut t.parents], [mut t.sequences], [mut t.counts], [mut t.flags],
-        [hash], parent, sequence, count, flags
-    ));
+    let answer = call!(probe_insert([blocks t], [hash], parent, sequence, count, flags));
     match halves(answer) {
         (0, slot) => Ok(slot),
         (1, 0) => Err(NotInserted::ReservedSequence),
@@ -220,9 +188,7 @@ pub fn insert(
 }
 
 pub fn delete(t: &mut Tables, slot: u32) -> bool {
-    said(call!(probe_delete(
-        [mut t.hashes], [mut t.parents], [mut t.sequences], [mut t.counts], [mut t.flags], slot
-    )))
+    said(call!(probe_delete([blocks t], slot)))
 }
 
 pub fn resolve_parent_ref(t: &mut Tables, slot: u32, parent: u32) {
@@ -321,49 +287,27 @@ pub fn select_eviction_victim(t: &Tables) -> Option<u32> {
 
 pub fn evict_one(t: &mut Tables) {
     let active = t.active;
-    call!(probe_evict_one(
-        [mut t.hashes], [mut t.parents], [mut t.sequences], [mut t.counts], [mut t.flags],
-        [mut t.tips], [mut t.tails], [mut t.missing], [mut t.requested], [mut t.arrivals],
-        [mut t.connected], active
-    ))
+    call!(probe_evict_one([all t], active))
 }
 
 /// The tip is the arriving block, as in the original.
 pub fn insert_head(t: &mut Tables, slot: u32, now: u64, previous: Hash) {
     let active = t.active;
-    call!(probe_insert_head(
-        [mut t.hashes], [mut t.parents], [mut t.sequences], [mut t.counts], [mut t.flags],
-        [mut t.tips], [mut t.tails], [mut t.missing], [mut t.requested], [mut t.arrivals],
-        [mut t.connected],
-        slot, now, slot, [previous], active
-    ))
+    call!(probe_insert_head([all t], slot, now, slot, [previous], active))
 }
 
 pub fn resolve_pending_tails(t: &mut Tables, slot: u32, previous: Hash) {
-    call!(probe_resolve_pending_tails(
-        [t.hashes], [mut t.parents], [t.sequences], [mut t.counts], [t.flags],
-        [mut t.tips], [mut t.tails], [mut t.missing], [mut t.requested], [mut t.arrivals],
-        [mut t.connected], slot, [previous]
-    ))
+    call!(probe_resolve_pending_tails([all t], slot, [previous]))
 }
 
 pub fn on_block_admitted(t: &mut Tables, slot: u32, parent: Option<u32>, previous: Hash, now: u64) {
     let active = t.active;
     let parent = parent.unwrap_or(NONE_REF);
-    call!(probe_on_block_admitted(
-        [mut t.hashes], [mut t.parents], [mut t.sequences], [mut t.counts], [mut t.flags],
-        [mut t.tips], [mut t.tails], [mut t.missing], [mut t.requested], [mut t.arrivals],
-        [mut t.connected],
-        slot, parent, [previous], now, active
-    ))
+    call!(probe_on_block_admitted([all t], slot, parent, [previous], now, active))
 }
 
 pub fn refresh_tails(t: &mut Tables) {
-    call!(probe_refresh_tails(
-        [t.hashes], [t.parents], [t.sequences], [t.counts], [t.flags],
-        [t.tips], [mut t.tails], [mut t.missing], [mut t.requested], [t.arrivals],
-        [mut t.connected]
-    ))
+    call!(probe_refresh_tails([all t]))
 }
 
 pub fn recompute_head_ref_counts(t: &mut Tables) {
@@ -371,20 +315,12 @@ pub fn recompute_head_ref_counts(t: &mut Tables) {
 }
 
 pub fn on_blocks_deleted(t: &mut Tables, deleted: &[u32], parent: u32) {
-    call!(probe_on_blocks_deleted(
-        [t.hashes], [t.parents], [t.sequences], [mut t.counts], [t.flags],
-        [mut t.tips], [mut t.tails], [mut t.missing], [mut t.requested], [mut t.arrivals],
-        [mut t.connected], [deleted], parent
-    ))
+    call!(probe_on_blocks_deleted([all t], [deleted], parent))
 }
 
 pub fn rebuild_from_blocks(t: &mut Tables, now: u64) {
     let active = t.active;
-    call!(probe_rebuild_from_blocks(
-        [mut t.hashes], [mut t.parents], [mut t.sequences], [mut t.counts], [mut t.flags],
-        [mut t.tips], [mut t.tails], [mut t.missing], [mut t.requested], [mut t.arrivals],
-        [mut t.connected], now, active
-    ))
+    call!(probe_rebuild_from_blocks([all t], now, active))
 }
 
 pub fn head_eligible_at(_: &Tables, requested: u64, retry: u64) -> u64 {

@@ -167,7 +167,8 @@ class Proof:
             return " .good" + path_in_tuple(self.moved(None, match.group(1).count(".1")))
 
         block = re.sub(r"([\w-]+) \.(kept|last)" + IN_TUPLE.pattern, of_call, block)
-        return re.sub(r" \.good" + IN_TUPLE.pattern, of_function, block)
+        block = re.sub(r" \.good" + IN_TUPLE.pattern, of_function, block)
+        return re.sub(r" \.args \.t(\d+)(?![\w-])", lambda match: f" .args .t{self.moved(None, int(match.group(1)) - 1) + 1}", block)
 
     def with_let_paths(self, block, places):
         """`let b = c .before .. in`, by the first `b .THING` that follows."""

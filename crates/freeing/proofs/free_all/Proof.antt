@@ -1,6 +1,6 @@
 -- What is left to free.
 use native.Mathlib.Omega.{arith}
-use Prim.Native.Nat.{_-_, _+_}
+use Prim.Native.Nat.{_<_, _-_, _+_}
 use mathlib.Core.Path.{_≡_, refl, sym, ap, _∙_}
 use lib.ListN.{length, drop}
 use Rattle.rules.specs.Records.{blocksOf}
@@ -31,8 +31,12 @@ shared-slice-read-t21 c = omega arith
 delete-requires : tie.Need-delete-requires Inv-loop μ-loop
 delete-requires c κs = tt
 
+-- the list has room for one more turn
+bound : (i : tie.In-loop Inv-loop μ-loop) → i .before .loop .k + 1 < 18446744073709551616
+bound i = omega arith
+
 add-k : tie.Need-add-k Inv-loop μ-loop
-add-k c = omega arith
+add-k c = let i : tie.In-loop Inv-loop μ-loop = search in omega (arith, bound i)
 
 loop-less : tie.Need-loop-less Inv-loop μ-loop
 loop-less c = omega arith

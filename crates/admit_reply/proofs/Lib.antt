@@ -1,1 +1,2 @@
 pub mod OwnHash
+mod Tested

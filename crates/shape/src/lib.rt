@@ -26,7 +26,10 @@ fn blocks_fit(
     if counts.len() != n {
         return false;
     }
-    flags.len() == n
+    if flags.len() != n {
+        return false;
+    }
+    true
 }
 
 fn heads_fit(
@@ -55,7 +58,10 @@ fn heads_fit(
     if arrivals.len() != m {
         return false;
     }
-    connected.len() == m
+    if connected.len() != m {
+        return false;
+    }
+    true
 }
 
 // Whether n, the number of parents, is 1 to 1,024, m, that of tips, is 2 to 64, and the length of every other buffer fits n or m.

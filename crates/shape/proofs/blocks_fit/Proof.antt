@@ -10,13 +10,13 @@ use Rattle.shape.proofs.blocks_fit.Tie as tie
 returns : tie.Need-returns
 unfolding blocksFit
 returns c =
-    let p = c .before .args in
+    let p = let q : tie.Start = search in q .args in
     rw (ne-eqb (length (p .hashes .now)) ((length (p .parents .now)) * 32) (λ q. c .if1 .taken (omega (arith, q))))
 
 returns-2 : tie.Need-returns-2
 unfolding blocksFit
 returns-2 c =
-    let p = c .before .before .args in
+    let p = let q : tie.Start = search in q .args in
     rw (ne-eqb (length (p .hashes .now)) ((length (p .parents .now)) * 32) (λ q. c .if2 .taken (omega (arith, q))))
 
 returns-3 : tie.Need-returns-3
@@ -25,7 +25,10 @@ returns-3 c =
     let p = let q : tie.Start = search in q .args in
     let if1 = let p : tie.Else1 = search in p .if1 in
     let if2 = let p : tie.Else2 = search in p .if2 in
-    rw (eq-eqb (length (p .hashes .now)) ((length (p .parents .now)) * 32) (omega (arith, if1 .left, if2 .left)), ne-eqb _ _ (c .if3 .taken))
+    rw (
+      eq-eqb (length (p .hashes .now)) ((length (p .parents .now)) * 32) (omega (arith, if1 .left, if2 .left)),
+      ne-eqb _ _ (c .if3 .taken),
+    )
 
 returns-4 : tie.Need-returns-4
 unfolding blocksFit
@@ -47,11 +50,28 @@ returns-5 c =
     let if1 = let p : tie.Else1 = search in p .if1 in
     let if2 = let p : tie.Else2 = search in p .if2 in
     let if3 = let p : tie.Else3 = search in p .if3 in
+    let if4 = let p : tie.Else4 = search in p .if4 in
     rw (
       eq-eqb (length (p .hashes .now)) ((length (p .parents .now)) * 32) (omega (arith, if1 .left, if2 .left)),
       eq-eqb _ _ (if3 .left),
-      eq-eqb _ _ (c .if4 .left),
+      eq-eqb _ _ (if4 .left),
+      ne-eqb _ _ (c .if5 .taken),
+    )
+
+returns-6 : tie.Need-returns-6
+unfolding blocksFit
+returns-6 c =
+    let p = let q : tie.Start = search in q .args in
+    let if1 = let p : tie.Else1 = search in p .if1 in
+    let if2 = let p : tie.Else2 = search in p .if2 in
+    let if3 = let p : tie.Else3 = search in p .if3 in
+    let if4 = let p : tie.Else4 = search in p .if4 in
+    rw (
+      eq-eqb (length (p .hashes .now)) ((length (p .parents .now)) * 32) (omega (arith, if1 .left, if2 .left)),
+      eq-eqb _ _ (if3 .left),
+      eq-eqb _ _ (if4 .left),
+      eq-eqb _ _ (c .if5 .left),
     )
 
 pub blocks-fit-spec : {M : Type 1} → statement M
-blocks-fit-spec = tie.close (tie.spec returns returns-2 returns-3 returns-4 returns-5)
+blocks-fit-spec = tie.close (tie.spec returns returns-2 returns-3 returns-4 returns-5 returns-6)

@@ -3,7 +3,7 @@ use native.Mathlib.Omega.{arith}
 use mathlib.Core.Path.{_≡_, _∙_}
 use mathlib.Core.List.{List}
 use Prim.Native.Nat.{ℕ}
-use Rattle.rules.specs.Records.{Tables, tailAt, withParents}
+use Rattle.rules.specs.Records.{Tables, tablesOf, tailAt, withParents}
 use Rattle.rules.specs.BlockTable.{resolveParent}
 use Rattle.rules.specs.Admission.{joined, link}
 use Rattle.late_links.proofs.link.Statement.{statement}
@@ -11,6 +11,9 @@ use Rattle.late_links.proofs.link.Tie as tie
 
 abbrev to-resolve-parent-ref : tie.After-join → tie.After-resolve-parent-ref
 to-resolve-parent-ref c = search
+
+abbrev start : tie.After-word-at → tie.Start
+start c = search
 
 word-at-requires : tie.Need-word-at-requires
 word-at-requires c κs = tt
@@ -73,7 +76,8 @@ returns c =
     let word-at = let p : tie.After-word-at = search in p .word-at in
     let resolve-parent-ref = let p : tie.After-resolve-parent-ref = search in p .resolve-parent-ref in
     let join = let p : tie.After-join = search in p .join in
-    steps _ _ _ _ _ _ (word-at .ensures) (resolve-parent-ref .ensures) (join .ensures)
+    let a = let p : tie.After-word-at = search in start p .args in
+    steps (tablesOf (a .hashes .now) (a .parents .now) (a .sequences .now) (a .counts .now) (a .flags .now) (a .tips .now) (a .tails .now) (a .missing .now) (a .requested .now) (a .arrivals .now) (a .connected .now)) _ _ _ _ _ (word-at .ensures) (resolve-parent-ref .ensures) (join .ensures)
 
 pub link-spec : {M : Type 1} → statement M
 link-spec =

@@ -1,10 +1,14 @@
 -- By whether it is late.
 use mathlib.Core.Path.{refl, sym, _∙_}
 use native.Mathlib.Omega.{arith}
+use Rattle.rules.specs.Records.{tablesOf}
 use Rattle.rules.proofs.Places.{the}
 use Rattle.late_links.proofs.Late.{linked, left-alone}
 use Rattle.late_links.proofs.link_late.Statement.{statement}
 use Rattle.late_links.proofs.link_late.Tie as tie
+
+abbrev start : tie.After-is-late → tie.Start
+start c = search
 
 is-late-requires : tie.Need-is-late-requires
 is-late-requires c κs = tt
@@ -40,7 +44,8 @@ returns : tie.Need-returns
 returns c =
     let l = the tie.After-link (search) in
     let b = the tie.Then1 (search) in
-    linked _ _ _ _ _ _ (sym (b .before .is-late .ensures) ∙ b .if1 .taken) (l .link .ensures)
+    let a = start (b .before) .args in
+    linked (tablesOf (a .hashes .now) (a .parents .now) (a .sequences .now) (a .counts .now) (a .flags .now) (a .tips .now) (a .tails .now) (a .missing .now) (a .requested .now) (a .arrivals .now) (a .connected .now)) _ _ _ _ _ (sym (b .before .is-late .ensures) ∙ b .if1 .taken) (l .link .ensures)
 
 same-length-9 : tie.Need-same-length-9
 same-length-9 c = refl
@@ -58,7 +63,10 @@ same-length-13 : tie.Need-same-length-13
 same-length-13 c = refl
 
 returns-2 : tie.Need-returns-2
-returns-2 c = let b = the tie.Else1 (search) in left-alone _ _ _ _ _ (sym (b .before .is-late .ensures) ∙ b .if1 .left)
+returns-2 c =
+    let b = the tie.Else1 (search) in
+    let a = start (b .before) .args in
+    left-alone (tablesOf (a .hashes .now) (a .parents .now) (a .sequences .now) (a .counts .now) (a .flags .now) (a .tips .now) (a .tails .now) (a .missing .now) (a .requested .now) (a .arrivals .now) (a .connected .now)) _ _ _ _ (sym (b .before .is-late .ensures) ∙ b .if1 .left)
 
 pub link-late-spec : {M : Type 1} → statement M
 link-late-spec =

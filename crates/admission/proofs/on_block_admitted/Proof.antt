@@ -5,7 +5,7 @@ use mathlib.Core.List.{List}
 use mathlib.Core.Option.{Option}
 use Prim.Native.Nat.{ℕ}
 use lib.IntN.{pos}
-use Rattle.rules.specs.Records.{Tables, withCounts}
+use Rattle.rules.specs.Records.{Tables, tablesOf, withCounts}
 use Rattle.rules.specs.BlockTable.{adjust, adjustCounts}
 use Rattle.rules.specs.Admission.{placeHead, resolveTails, admitted}
 use Rattle.admission.proofs.on_block_admitted.Statement.{statement}
@@ -19,6 +19,9 @@ to-place-head c = search
 
 abbrev to-adjust-head-ref-count : tie.After-place-head → tie.After-adjust-head-ref-count
 to-adjust-head-ref-count c = search
+
+abbrev start : tie.After-adjust-head-ref-count → tie.Start
+start c = search
 
 adjust-head-ref-count-requires : tie.Need-adjust-head-ref-count-requires
 adjust-head-ref-count-requires c κs = tt
@@ -107,7 +110,9 @@ returns : tie.Need-returns
 returns c =
     let r : tie.After-resolve-pending-tails = search in
     let h = to-place-head (to-tips r) in
-    steps _ _ _ _ _ _ _ _ _ (to-adjust-head-ref-count h .adjust-head-ref-count .ensures .1) (h .place-head .ensures)
+    let n = to-adjust-head-ref-count h in
+    let a = start n .args in
+    steps (tablesOf (a .hashes .now) (a .parents .now) (a .sequences .now) (a .counts .now) (a .flags .now) (a .tips .now) (a .tails .now) (a .missing .now) (a .requested .now) (a .arrivals .now) (a .connected .now)) _ _ _ _ _ _ _ _ (n .adjust-head-ref-count .ensures .1) (h .place-head .ensures)
     (r .resolve-pending-tails .ensures)
 
 pub on-block-admitted-spec : {M : Type 1} → statement M

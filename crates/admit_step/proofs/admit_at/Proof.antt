@@ -7,10 +7,10 @@ use native.Mathlib.Omega.{arith}
 use borrow.Author.Needs.{needs}
 use lib.ListN.{length}
 use Rattle.rules.specs.Hashes.{hashLength}
-use Rattle.rules.specs.Records.{Blocks, Tables}
+use Rattle.rules.specs.Records.{Blocks, Tables, tablesOf}
 use Rattle.rules.specs.BlockTable.{findParent, insertAt}
 use Rattle.rules.specs.Admission.{admitted as admittedRule, refreshTails}
-use Rattle.rules.specs.Calls.{State, newBlock, slotOrNone, admitAt}
+use Rattle.rules.specs.Calls.{State, stateOf, newBlock, slotOrNone, admitAt}
 use Rattle.rules.proofs.Places.{the}
 use Rattle.admit_step.proofs.admit_at.Statement.{statement}
 use Rattle.admit_step.proofs.admit_at.Tie as tie
@@ -121,7 +121,8 @@ returns c =
     let a = admitted t in
     let i = inserted a in
     let s = below i in
-    steps _ _ _ _ _ _ _ _ _ _ _ (s .before .find-parent .ensures) (s .slot-or-none .ensures) (i .insert-at .ensures) (a .on-block-admitted .ensures)
+    let p = start s .args in
+    steps (stateOf (tablesOf (p .hashes .now) (p .parents .now) (p .sequences .now) (p .counts .now) (p .flags .now) (p .tips .now) (p .tails .now) (p .missing .now) (p .requested .now) (p .arrivals .now) (p .connected .now)) (p .active .0)) _ _ _ _ _ _ _ _ _ _ (s .before .find-parent .ensures) (s .slot-or-none .ensures) (i .insert-at .ensures) (a .on-block-admitted .ensures)
     (t .refresh-tails .ensures)
 
 pub admit-at-spec : {M : Type 1} → statement M

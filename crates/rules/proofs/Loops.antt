@@ -1,8 +1,10 @@
 -- What a loop over the tables keeps: the lengths of the fields that it may write, and what its first turns have made.
 use mathlib.Core.Path.{_≡_, ap}
-use Prim.Native.Nat.{ℕ, _≤_}
+use Prim.Native.Nat.{ℕ, _+_, _≤_}
 use lib.ListN.{length}
+use Rattle.rules.specs.Common.{inOrder}
 use Rattle.rules.specs.Records.{Blocks, Heads, Tables, Caches}
+use Rattle.rules.proofs.Search.{in-order-then}
 
 pub record SameBlocks (b was : Blocks) : Type 0 where
   pub hashes : length (b .hashes) ≡ length (was .hashes)
@@ -38,3 +40,9 @@ pub record Turned (k m : ℕ) (Lengths Done : Type 0) : Type 0 where
 -- of tables whose blocks stay
 pub on-heads : {b : Blocks} {h g : Heads} → h ≡ g → _≡_ {A = Tables} (record { blocks = b; heads = h }) (record { blocks = b; heads = g })
 on-heads {b = b} e = ap (λ (x : Heads). record { blocks = b; heads = x }) e
+
+-- one turn more over the heads of such tables
+pub heads-then : (act : ℕ → Heads → Heads) (k : ℕ) (b : Blocks) (was h : Heads) (t : Tables)
+    → h ≡ act k (t .heads) → t ≡ record { blocks = b; heads = inOrder act k was }
+    → _≡_ {A = Tables} (record { blocks = b; heads = h }) (record { blocks = b; heads = inOrder act (k + 1) was })
+heads-then act k b was h t e d = on-heads (in-order-then act k was (t .heads) h e (ap (λ (x : Tables). x .heads) d))

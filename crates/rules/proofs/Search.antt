@@ -1,5 +1,5 @@
 -- The lowest number that passes, the one that goes before all others, how many pass and which: what callers use of each.
-use mathlib.Core.Path.{_≡_, refl, sym, _∙_}
+use mathlib.Core.Path.{_≡_, refl, sym, ap, _∙_}
 use mathlib.Core.Logic.{_≢_}
 use mathlib.Core.Bool.{Bool, true, false}
 use mathlib.Core.List.{[], _∷_, _++_, append-nil}
@@ -141,3 +141,7 @@ in-order-none act a = refl
 pub in-order-next {ℓ} : {A : Type ℓ} (act : ℕ → A → A) (i : ℕ) (a : A) → inOrder act (i + 1) a ≡ act i (inOrder act i a)
 unfolding inOrder
 in-order-next act i a = rw add-one refl
+
+-- one turn more, of what the turns before it have made
+pub in-order-then {ℓ} : {A : Type ℓ} (act : ℕ → A → A) (i : ℕ) (was a b : A) → b ≡ act i a → a ≡ inOrder act i was → b ≡ inOrder act (i + 1) was
+in-order-then act i was a b e d = e ∙ ap (act i) d ∙ sym (in-order-next act i was)

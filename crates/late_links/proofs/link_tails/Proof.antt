@@ -1,11 +1,11 @@
 -- The heads before `k` are done.
 use native.Mathlib.Omega.{arith}
-use Prim.Native.Nat.{ℕ, _+_, _-_}
-use mathlib.Core.Path.{_≡_, sym, ap, _∙_}
+use Prim.Native.Nat.{_-_}
+use mathlib.Core.Path.{_≡_, sym}
 use Rattle.rules.specs.Common.{inOrder}
 use Rattle.rules.specs.Records.{Tables, tablesOf}
 use Rattle.rules.specs.Admission.{linkLate, linkTails}
-use Rattle.rules.proofs.Search.{in-order-none, in-order-next}
+use Rattle.rules.proofs.Search.{in-order-none, in-order-then}
 use Rattle.rules.proofs.Places.{the}
 use Rattle.rules.proofs.Loops.{SameLengths, Turned}
 use Rattle.late_links.proofs.link_tails.Statement.{statement}
@@ -38,10 +38,6 @@ add-k c = let i = the (tie.In-loop Inv-loop μ-loop) (search) in omega (arith, i
 loop-less : tie.Need-loop-less Inv-loop μ-loop
 loop-less c = let i = the (tie.In-loop Inv-loop μ-loop) (search) in omega (arith, i .loop-test .taken)
 
--- one turn more, of any tables
-next : (f : ℕ → Tables → Tables) (k : ℕ) (was t u : Tables) → u ≡ f k t → t ≡ inOrder f k was → u ≡ inOrder f (k + 1) was
-next f k was t u e d = e ∙ ap (f k) d ∙ sym (in-order-next f k was)
-
 loop-again : tie.Need-loop-again Inv-loop μ-loop
 loop-again c =
     let u = the (tie.After-link-late Inv-loop μ-loop) (search) .link-late in
@@ -50,7 +46,7 @@ loop-again c =
     record {
       within = omega (arith, i .loop-test .taken);
       lengths = record { blocks = omega (arith, u .kept, l .lengths); heads = record { tips = omega (arith, u .kept, l .lengths); tails = omega (arith, u .kept, l .lengths); missing = omega (arith, u .kept, l .lengths); requested = omega (arith, u .kept, l .lengths); arrivals = omega (arith, u .kept, l .lengths); connected = omega (arith, u .kept, l .lengths) } };
-      done = next _ _ _ _ _ (u .ensures) (l .done);
+      done = in-order-then _ _ _ _ _ (u .ensures) (l .done);
     }
 
 same-length : tie.Need-same-length Inv-loop μ-loop

@@ -1,4 +1,4 @@
--- The slots before `i` are done, and the bytes name the parents.
+-- The slots before `i` are done, and the bytes name the parents. All lengths are one goal: for a record `omega` would begin anew with each field.
 use native.Mathlib.Omega.{arith}
 use Prim.Native.Nat.{ℕ, _+_, _-_}
 use mathlib.Core.Path.{_≡_, sym, ap, _∙_}
@@ -8,7 +8,7 @@ use Rattle.rules.specs.Common.{inOrder}
 use Rattle.rules.specs.Records.{Tables, tablesOf, slotsOf}
 use Rattle.rules.specs.Rebuild.{rebuildAt, rebuildHeads}
 use Rattle.rules.proofs.Search.{in-order-none, in-order-next}
-use Rattle.rules.proofs.Loops.{SameLengths, Turned}
+use Rattle.rules.proofs.Loops.{Turned}
 use Rattle.named_parents.specs.Named.{namedParents}
 use Rattle.rebuild.proofs.rebuild_heads.Statement.{statement}
 use Rattle.rebuild.proofs.rebuild_heads.Tie as tie
@@ -24,11 +24,6 @@ ends : (t u : Tables) (arrival active i n : ℕ)
 unfolding rebuildHeads
 ends t u arrival active i n e d f = rw (← e, ← d) f
 
--- the lengths, of the bytes too
-record Lengths (t was : Tables) (named named₀ : List ℕ) : Type 0 where
-  tables : SameLengths t was
-  bytes : length named ≡ length named₀
-
 -- the tables as they are to be, and in the bytes the parents
 record Made (t made : Tables) (named : List ℕ) (room : ℕ) : Type 0 where
   tables : t ≡ made
@@ -39,7 +34,9 @@ Inv-loop hashes₀ parents₀ sequences₀ counts₀ flags₀ tips₀ tails₀ m
     hashes parents sequences counts flags tips tails missing requested arrivals connected named i =
     let was = tablesOf hashes₀ parents₀ sequences₀ counts₀ flags₀ tips₀ tails₀ missing₀ requested₀ arrivals₀ connected₀ in
     let t = tablesOf hashes parents sequences counts flags tips tails missing requested arrivals connected in
-    Turned i n (Lengths t was named named₀) (Made t (inOrder (rebuildAt arrival (active .0)) i was) named (length named₀))
+    Turned i n
+    ((length named ≡ length named₀) × ((length hashes ≡ length hashes₀) × ((length parents ≡ length parents₀) × ((length sequences ≡ length sequences₀) × ((length counts ≡ length counts₀) × ((length flags ≡ length flags₀) × ((length tips ≡ length tips₀) × ((length tails ≡ length tails₀) × ((length missing ≡ length missing₀) × ((length requested ≡ length requested₀) × ((length arrivals ≡ length arrivals₀) × (length connected ≡ length connected₀))))))))))))
+    (Made t (inOrder (rebuildAt arrival (active .0)) i was) named (length named₀))
 
 abbrev μ-loop : tie.MeasureT-loop
 μ-loop hashes₀ parents₀ sequences₀ counts₀ flags₀ tips₀ tails₀ missing₀ requested₀ arrivals₀ connected₀ named₀ arrival active n i₀
@@ -93,12 +90,9 @@ loop-again c =
     let l = to-loop t .loop .inv in
     record {
       within = omega (arith, to-loop-test t .loop-test .taken);
-      lengths = record {
-        tables = record { blocks = omega (arith, u .kept, l .lengths); heads = omega (arith, u .kept, l .lengths) };
-        bytes = omega (arith, u .kept, l .lengths);
-      };
+      lengths = omega (arith, u .kept, l .lengths);
       done =
-          let e = l .lengths .bytes in
+          let e = l .lengths .0 in
           let v = u .ensures (l .done .bytes ∙ ap (namedParents _ _) (sym e)) in
           record { tables = v .0 ∙ turn _ _ _ _ _ (l .done .tables); bytes = v .1 ∙ ap (namedParents _ _) e };
     }

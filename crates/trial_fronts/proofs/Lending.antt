@@ -18,11 +18,6 @@ use Rattle.trial_fronts.specs.Fronts.{front, behind}
 
 -- ---- tables field by field
 
-fields : (h p s c f t l m r a k h′ p′ s′ c′ f′ t′ l′ m′ r′ a′ k′ : List ℕ)
-    → h ≡ h′ → p ≡ p′ → s ≡ s′ → c ≡ c′ → f ≡ f′ → t ≡ t′ → l ≡ l′ → m ≡ m′ → r ≡ r′ → a ≡ a′ → k ≡ k′
-    → tablesOf h p s c f t l m r a k ≡ tablesOf h′ p′ s′ c′ f′ t′ l′ m′ r′ a′ k′
-fields h p s c f t l m r a k h′ p′ s′ c′ f′ t′ l′ m′ r′ a′ k′ e₁ e₂ e₃ e₄ e₅ e₆ e₇ e₈ e₉ e₁₀ e₁₁ = cc
-
 -- two tables with the same fields
 pub record Same (t u : Tables) : Type 0 where
   pub hashes : t .blocks .hashes ≡ u .blocks .hashes
@@ -39,7 +34,7 @@ pub record Same (t u : Tables) : Type 0 where
 
 pub same-tables : (t u : Tables) → Same t u → t ≡ u
 same-tables t u e =
-    fields _ _ _ _ _ _ _ _ _ _ _ _ _ _ _ _ _ _ _ _ _ _ (e .hashes) (e .parents) (e .sequences) (e .counts) (e .flags) (e .tips) (e .tails) (e .missing) (e .requested) (e .arrivals) (e .connected)
+    λ i. tablesOf (e .hashes i) (e .parents i) (e .sequences i) (e .counts i) (e .flags i) (e .tips i) (e .tails i) (e .missing i) (e .requested i) (e .arrivals i) (e .connected i)
 
 -- ---- the front of one array, and of all
 

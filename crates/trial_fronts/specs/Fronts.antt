@@ -1,9 +1,11 @@
 -- Tables at the front of arrays: their first slots, what stands behind these, and one before the other.
 use mathlib.Core.List.{_++_}
-use Prim.Native.Nat.{ℕ, _*_}
-use lib.ListN.{take, drop}
+use mathlib.Core.Path.{_≡_}
+use Prim.Native.Nat.{ℕ, _*_, min}
+use lib.ListN.{length, take, drop}
 use Rattle.rules.specs.Hashes.{hashLength}
 use Rattle.rules.specs.Records.{Tables, tablesOf}
+use Rattle.trial_fronts.specs.declared.Ends.{Ends}
 
 unfoldable pub front : (n m : ℕ) → Tables → Tables
 front n m t =
@@ -27,3 +29,17 @@ before t u =
     let k = u .heads in
     tablesOf (b .hashes ++ c .hashes) (b .parents ++ c .parents) (b .sequences ++ c .sequences) (b .counts ++ c .counts) (b .flags ++ c .flags)
     (h .tips ++ k .tips) (h .tails ++ k .tails) (h .missing ++ k .missing) (h .requested ++ k .requested) (h .arrivals ++ k .arrivals) (h .connected ++ k .connected)
+
+-- each end is that of the first slots, or of the array where that is shorter
+pub record Cut (n m : ℕ) (ends : Ends) (t : Tables) : Type 0 where
+  pub hashes : ends .hashes ≡ min (n * hashLength) (length (t .blocks .hashes))
+  pub parents : ends .parents ≡ min n (length (t .blocks .parents))
+  pub sequences : ends .sequences ≡ min n (length (t .blocks .sequences))
+  pub counts : ends .counts ≡ min n (length (t .blocks .counts))
+  pub flags : ends .flags ≡ min n (length (t .blocks .flags))
+  pub tips : ends .tips ≡ min m (length (t .heads .tips))
+  pub tails : ends .tails ≡ min m (length (t .heads .tails))
+  pub missing : ends .missing ≡ min (m * hashLength) (length (t .heads .missing))
+  pub requested : ends .requested ≡ min m (length (t .heads .requested))
+  pub arrivals : ends .arrivals ≡ min m (length (t .heads .arrivals))
+  pub connected : ends .connected ≡ min m (length (t .heads .connected))

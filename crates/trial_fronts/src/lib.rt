@@ -7,13 +7,63 @@ ghost use Rattle.rules.specs.Calls.{stateOf};
 ghost use Rattle.trial_lines.specs.Writing.{place};
 ghost use Rattle.trial_listing.specs.Listing.{listingOf};
 ghost use Rattle.trial_calls.specs.Calling.{Tells};
-ghost use Rattle.trial_fronts.specs.Fronts.{front, behind};
+ghost use Rattle.trial_fronts.specs.Fronts.{front, behind, Cut};
 use cells::least;
 use rules::BlockSlot;
 use trial_answer::answer;
 use trial_calls::Told;
 use trial_lines::Line;
 use trial_listing::listing;
+
+// Where the front of each array ends.
+struct Ends {
+    hashes: usize,
+    parents: usize,
+    sequences: usize,
+    counts: usize,
+    flags: usize,
+    tips: usize,
+    tails: usize,
+    missing: usize,
+    requested: usize,
+    arrivals: usize,
+    connected: usize,
+}
+
+// The first n block slots and the first m head slots, as much of each array as there is.
+fn cut(
+    hashes: &[u8],
+    parents: &[u32],
+    sequences: &[u32],
+    counts: &[u8],
+    flags: &[u8],
+    tips: &[u32],
+    tails: &[u32],
+    missing: &[u8],
+    requested: &[u64],
+    arrivals: &[u64],
+    connected: &[u8],
+    n: u32,
+    m: u32,
+) -> Ends
+    ensures { λ r. ⌜ Cut n m r (before hashes parents sequences counts flags tips tails missing requested arrivals connected) ⌝ }
+{
+    let blocks = n as usize;
+    let heads = m as usize;
+    Ends {
+        hashes: least(blocks * 32, hashes.len()),
+        parents: least(blocks, parents.len()),
+        sequences: least(blocks, sequences.len()),
+        counts: least(blocks, counts.len()),
+        flags: least(blocks, flags.len()),
+        tips: least(heads, tips.len()),
+        tails: least(heads, tails.len()),
+        missing: least(heads * 32, missing.len()),
+        requested: least(heads, requested.len()),
+        arrivals: least(heads, arrivals.len()),
+        connected: least(heads, connected.len()),
+    }
+}
 
 // As much of each array as there is.
 pub fn answer_front(
@@ -43,31 +93,33 @@ pub fn answer_front(
         × (behind n m (after hashes parents sequences counts flags tips tails missing requested arrivals connected)
         ≡ behind n m (before hashes parents sequences counts flags tips tails missing requested arrivals connected)) ⌝ }
 {
-    let blocks = n as usize;
-    let heads = m as usize;
-    let hash_end = least(blocks * 32, hashes.len());
-    let parent_end = least(blocks, parents.len());
-    let sequence_end = least(blocks, sequences.len());
-    let count_end = least(blocks, counts.len());
-    let flag_end = least(blocks, flags.len());
-    let tip_end = least(heads, tips.len());
-    let tail_end = least(heads, tails.len());
-    let missing_end = least(heads * 32, missing.len());
-    let requested_end = least(heads, requested.len());
-    let arrival_end = least(heads, arrivals.len());
-    let connected_end = least(heads, connected.len());
+    let end = cut(
+        hashes,
+        parents,
+        sequences,
+        counts,
+        flags,
+        tips,
+        tails,
+        missing,
+        requested,
+        arrivals,
+        connected,
+        n,
+        m,
+    );
     answer(
-        &mut hashes[..hash_end],
-        &mut parents[..parent_end],
-        &mut sequences[..sequence_end],
-        &mut counts[..count_end],
-        &mut flags[..flag_end],
-        &mut tips[..tip_end],
-        &mut tails[..tail_end],
-        &mut missing[..missing_end],
-        &mut requested[..requested_end],
-        &mut arrivals[..arrival_end],
-        &mut connected[..connected_end],
+        &mut hashes[..end.hashes],
+        &mut parents[..end.parents],
+        &mut sequences[..end.sequences],
+        &mut counts[..end.counts],
+        &mut flags[..end.flags],
+        &mut tips[..end.tips],
+        &mut tails[..end.tails],
+        &mut missing[..end.missing],
+        &mut requested[..end.requested],
+        &mut arrivals[..end.arrivals],
+        &mut connected[..end.connected],
         active,
         line,
         out,

@@ -222,6 +222,8 @@ class Proof:
         name, block = answers[sibling.name]
         block = whole_word(name).sub(need.name, block)
         block = re.sub(r"tie\.Need-" + re.escape(sibling.name) + r"(?![\w-])", f"tie.Need-{need.name}", block)
+        was, new = (f".{one.replace('_', '-')}" for one in (self.after(need), self.parameter(need)))
+        block = re.sub(re.escape(was) + r"(?![\w-])", new, block)
 
         def shifted(match):
             function, place = self.called(match.group(1), self.now), match.group(3).count(".1")
@@ -238,9 +240,16 @@ class Proof:
     def answer_rest(self, answers):
         for need in self.needed:
             if need not in answers:
-                body = " κs = tt" if re.search(r"-requires(-\d+)?$", need) else " = search needs"
+                body = " κs = tt" if re.search(r"-requires(-\d+)?$", need) else self.of_its_kind(need, answers) or " = search needs"
                 answers[need] = self.answer(need, body)
                 self.by_hand.append(f"new answer: {need} c{body}")
+
+    def of_its_kind(self, need, answers):
+        """What every other need of this name but for its number is answered with, if that is one text with no path in it."""
+        kind = re.compile(re.escape(re.sub(r"-\d+$", "", need)) + r"(-\d+)?")
+        others = [block for other, (_, block) in answers.items() if kind.fullmatch(other)]
+        bodies = {re.split(r"\n\S+ c(?= )", block, maxsplit=1)[-1] for block in others}
+        return bodies.pop() if len(others) > 1 and len(bodies) == 1 and not any(BEFORE in body for body in bodies) else None
 
     # one text for every slice
 

@@ -15,13 +15,13 @@ use query_numbers::status_found;
 use rules::BlockSlot;
 use rules::Sequence;
 
-fn put_words(words: &mut [u32], a: u32, b: u32, c: u32, d: u32)
-    ensures { λ _. ⌜ now (words .exit) ≡ sets (now (words .entry)) 0 (a ∷ b ∷ c ∷ d ∷ []) ⌝ }
+fn put_words(words: &mut [u32], parent: u32, sequence: u32, count: u8, flags: u8)
+    ensures { λ _. ⌜ now (words .exit) ≡ sets (now (words .entry)) 0 (parent ∷ sequence ∷ count ∷ flags ∷ []) ⌝ }
 {
-    cells::put_word(words, 0, a);
-    cells::put_word(words, 1, b);
-    cells::put_word(words, 2, c);
-    cells::put_word(words, 3, d);
+    cells::put_word(words, 0, parent);
+    cells::put_word(words, 1, sequence);
+    cells::put_word(words, 2, count as u32);
+    cells::put_word(words, 3, flags as u32);
 }
 
 // The lowest occupied slot with this sequence and hash; NONE_REF is none.
@@ -86,14 +86,12 @@ pub extern "C" fn station_get(
         let block = got.block;
         let bytes = block.hash;
         cells::put_hash(hash, 0, bytes);
-        let count = block.count;
-        let bits = block.flags;
         put_words(
             words,
             block.parent.0,
             block.sequence.0,
-            count as u32,
-            bits as u32,
+            block.count,
+            block.flags,
         );
         return 1;
     }

@@ -13,12 +13,6 @@ get-requires c κs = tt
 put-hash-requires : tie.Need-put-hash-requires
 put-hash-requires c κs = tt
 
-cast-put-words : tie.Need-cast-put-words
-cast-put-words c = search needs
-
-cast-put-words-2 : tie.Need-cast-put-words-2
-cast-put-words-2 c = search needs
-
 put-words-requires : tie.Need-put-words-requires
 put-words-requires c κs = tt
 
@@ -53,8 +47,6 @@ station-get-spec =
     (tie.spec
     get-requires
     put-hash-requires
-    cast-put-words
-    cast-put-words-2
     put-words-requires
     same-length
     same-length-2

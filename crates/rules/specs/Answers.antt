@@ -47,49 +47,49 @@ use Rattle.rules.specs.declared.DeadlineAnswer.the-variants as deadlineA
 
 -- ---- below the calls
 
-abbrev pub slotFound : Found → Option BlockSlot
+abbrev pub slotFound : (answer : Found) → Option BlockSlot
 slotFound (found.At slot) = some (slot .0)
 slotFound found.Nothing = none
 
-abbrev pub headFound : FoundHead → Option HeadSlot
+abbrev pub headFound : (answer : FoundHead) → Option HeadSlot
 headFound (foundHead.At slot) = some (slot .0)
 headFound foundHead.Nothing = none
 
-abbrev pub headInUse : NextHead → Option HeadInUse
+abbrev pub headInUse : (answer : NextHead) → Option HeadInUse
 headInUse (nextHead.At slot tip anchor) = some (record { slot = slot .0; tip = tip .0; anchor = anchor .0 })
 headInUse nextHead.Nothing = none
 
-abbrev pub insertionMade : Inserted → Insertion
+abbrev pub insertionMade : (answer : Inserted) → Insertion
 insertionMade (inserted.At slot) = intoSlot (slot .0)
 insertionMade inserted.ReservedSequence = reserved
 insertionMade inserted.Full = full
 
 -- where nothing is there the block is the empty record
-abbrev pub gotBlock : Option Block → Got
+abbrev pub gotBlock : (block : Option Block) → Got
 gotBlock none = record { there = false; block = emptyBlock }
 gotBlock (some block) = record { there = true; block = block }
 
-abbrev pub countGot : Counted → Option ℕ
+abbrev pub countGot : (answer : Counted) → Option ℕ
 countGot (counted.Count count) = some count
 countGot counted.Nothing = none
 
-abbrev pub statusGot : StatusFound → Option ℕ
+abbrev pub statusGot : (answer : StatusFound) → Option ℕ
 statusGot (statusFound.Status status) = some (statusNumber status)
 statusGot statusFound.Nothing = none
 
-abbrev pub anchorLocated : Located → Anchor
+abbrev pub anchorLocated : (answer : Located) → Anchor
 anchorLocated (located.Connection slot) = connection (slot .0)
 anchorLocated (located.Tail slot) = tail (slot .0)
 
-abbrev pub spanGiven : Span → Option Time
+abbrev pub spanGiven : (retry : Span) → Option Time
 spanGiven (span.Ticks ticks) = some ticks
 spanGiven span.Unset = none
 
-abbrev pub askChosen : Recovery → Option Ask
+abbrev pub askChosen : (answer : Recovery) → Option Ask
 askChosen (recovery.Ask head sequence) = some (record { head = head .0; claims = sequence .0 })
 askChosen recovery.NoneDue = none
 
-abbrev pub deadlineGot : Deadline → Option Time
+abbrev pub deadlineGot : (answer : Deadline) → Option Time
 deadlineGot (deadline.At time) = some time
 deadlineGot deadline.Never = none
 
@@ -99,7 +99,7 @@ deadlineGot deadline.Never = none
 abbrev pub lastRefusal : ℕ
 lastRefusal = 9
 
-abbrev pub refusalNumber : Refusal → ℕ
+abbrev pub refusalNumber : (why : Refusal) → ℕ
 refusalNumber Shape = 1
 refusalNumber HashLength = 2
 refusalNumber NoBlock = 3
@@ -120,28 +120,28 @@ pub data Answer : Type 0 where
   dueAt : (time : Time) → Answer
   neverDue : Answer
 
-abbrev pub outcomeSaid : Outcome → Answer
+abbrev pub outcomeSaid : (answer : Outcome) → Answer
 outcomeSaid outcome.Done = done
 outcomeSaid (outcome.Refused why) = refused (refusalNumber why)
 
-abbrev pub admittedSaid : Admitted → Answer
+abbrev pub admittedSaid : (answer : Admitted) → Answer
 admittedSaid (admitted.Slot new) = slot (new .0)
 admittedSaid (admitted.Refused why) = refused (refusalNumber why)
 
-abbrev pub removedSaid : Removed → Answer
+abbrev pub removedSaid : (answer : Removed) → Answer
 removedSaid (removed.Freed blocks) = freed blocks
 removedSaid (removed.Refused why) = refused (refusalNumber why)
 
-abbrev pub timedSaid : Timed → (missing : Hash) → Answer
+abbrev pub timedSaid : (answer : Timed) (missing : Hash) → Answer
 timedSaid (timed.Request head sequence) missing = request (head .0) (sequence .0) missing
 timedSaid timed.NoneDue missing = noneDue
 timedSaid (timed.Refused why) missing = refused (refusalNumber why)
 
-abbrev pub timerSaid : TimerAnswer → Answer
+abbrev pub timerSaid : (answer : TimerAnswer) → Answer
 timerSaid answer = timedSaid (answer .timed) (answer .missing)
 
 -- the hash beside a timer's answer: that of the request, zeros where there is none
-abbrev pub hashAsked : Answer → Hash
+abbrev pub hashAsked : (answer : Answer) → Hash
 hashAsked (request head claims missing) = missing
 hashAsked (refused number) = zeroHash
 hashAsked done = zeroHash
@@ -151,7 +151,7 @@ hashAsked noneDue = zeroHash
 hashAsked (dueAt time) = zeroHash
 hashAsked neverDue = zeroHash
 
-abbrev pub deadlineSaid : DeadlineAnswer → Answer
+abbrev pub deadlineSaid : (answer : DeadlineAnswer) → Answer
 deadlineSaid (deadlineAnswer.At time) = dueAt time
 deadlineSaid deadlineAnswer.Never = neverDue
 deadlineSaid (deadlineAnswer.Refused why) = refused (refusalNumber why)

@@ -7,44 +7,44 @@ use Prim.Native.Nat.{ℕ, zero, suc, _+_}
 use lib.Dec.{eqb}
 
 infix 10 if_then_else_
-abbrev pub if_then_else_ {ℓ} : {A : Type ℓ} → Bool → A → A → A
+abbrev pub if_then_else_ {ℓ} : {A : Type ℓ} (condition : Bool) (a b : A) → A
 if true then a else b = a
 if false then a else b = b
 
-abbrev pub isSome : Option ℕ → Bool
+abbrev pub isSome : (o : Option ℕ) → Bool
 isSome none = false
 isSome (some i) = true
 
-abbrev pub isAt : Option ℕ → ℕ → Bool
+abbrev pub isAt : (o : Option ℕ) (k : ℕ) → Bool
 isAt none k = false
 isAt (some i) k = eqb i k
 
 -- the lowest number below n that passes
-unfoldable pub lowest : (ℕ → Bool) → ℕ → Option ℕ
+unfoldable pub lowest : (test : ℕ → Bool) (n : ℕ) → Option ℕ
 lowest test zero = none
 lowest test (suc n) = elim (lowest test n) [ none ↦ if test n then some n else none | some i ↦ some i ]
 
 -- k is taken where nothing was, or where it goes before what was
-unfoldable pub better : (ℕ → ℕ → Bool) → ℕ → Option ℕ → Option ℕ
+unfoldable pub better : (before : ℕ → ℕ → Bool) (k : ℕ) (was : Option ℕ) → Option ℕ
 better before k none = some k
 better before k (some b) = if before k b then some k else some b
 
 -- of the numbers below n that pass, the one that goes before the others; the lowest of equals
-unfoldable pub best : (ℕ → Bool) → (ℕ → ℕ → Bool) → ℕ → Option ℕ
+unfoldable pub best : (test : ℕ → Bool) (before : ℕ → ℕ → Bool) (n : ℕ) → Option ℕ
 best test before zero = none
 best test before (suc n) = if test n then better before n (best test before n) else best test before n
 
 -- how many numbers below n pass
-unfoldable pub countBelow : (ℕ → Bool) → ℕ → ℕ
+unfoldable pub countBelow : (test : ℕ → Bool) (n : ℕ) → ℕ
 countBelow test zero = 0
 countBelow test (suc n) = (if test n then 1 else 0) + countBelow test n
 
 -- the numbers below n that pass, in order
-unfoldable pub allBelow : (ℕ → Bool) → ℕ → List ℕ
+unfoldable pub allBelow : (test : ℕ → Bool) (n : ℕ) → List ℕ
 allBelow test zero = []
 allBelow test (suc n) = allBelow test n ++ (if test n then n ∷ [] else [])
 
 -- for each number below n, from 0 up
-unfoldable pub inOrder {ℓ} : {A : Type ℓ} → (ℕ → A → A) → ℕ → A → A
+unfoldable pub inOrder {ℓ} : {A : Type ℓ} (act : ℕ → A → A) (n : ℕ) (a : A) → A
 inOrder act zero a = a
 inOrder act (suc n) a = act n (inOrder act n a)

@@ -5,6 +5,7 @@ use Prim.Native.Nat.{ℕ}
 use lib.Dec.{eqb}
 use lib.IntN.{pos, negsuc}
 use lib.ListN.{replicate}
+use Rattle.rules.specs.Kinds.{Sequence}
 use Rattle.rules.specs.Hashes.{hashLength}
 use Rattle.rules.specs.Records.{statusOf, statusNumber}
 use Rattle.rules.specs.BlockTable.{adjusted}
@@ -18,11 +19,11 @@ pub record Mark : Type 0 where
   pub given : ℕ
   pub marked : ℕ
 
-abbrev pub mark : ℕ → ℕ → Mark
+abbrev pub mark : (given marked : ℕ) → Mark
 mark given marked = record { given = given; marked = marked }
 
 -- the number of a refusal, and 0 for an answer that is none
-abbrev pub refusal : Answer → ℕ
+abbrev pub refusal : (answer : Answer) → ℕ
 refusal (refused number) = number
 refusal done = 0
 refusal (slot i) = 0
@@ -33,11 +34,11 @@ refusal (dueAt time) = 0
 refusal neverDue = 0
 
 -- fresh over tables of n and m
-unfoldable pub freshOf : ℕ → ℕ → ℕ
+unfoldable pub freshOf : (n m : ℕ) → ℕ
 freshOf n m = refusal (fresh (freshState n m) .answer)
 
 -- admit of a sequence on fresh tables
-unfoldable pub admitOf : ℕ → ℕ
+unfoldable pub admitOf : (sequence : Sequence) → ℕ
 admitOf sequence = refusal (admit (freshState 4 2) sequence (replicate hashLength 10) (replicate hashLength 9) 1 .answer)
 
 unfoldable pub marks : List Mark
@@ -51,6 +52,6 @@ marks =
     ∷ []
 
 -- the test over the whole table
-unfoldable pub allAsMarked : List Mark → Bool
+unfoldable pub allAsMarked : (table : List Mark) → Bool
 allAsMarked [] = true
 allAsMarked (x ∷ xs) = eqb (x .given) (x .marked) && allAsMarked xs

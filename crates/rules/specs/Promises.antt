@@ -69,23 +69,24 @@ IsHead s i = (k : HeadSlot) × InUse s k × (tip s k ≡ i)
 
 -- the visits of a block's parent walk: the block, then those of its parent, if that is a block
 pub data Walk (s : State) : BlockSlot → List BlockSlot → Type 0 where
-  ends : (i : BlockSlot) → Occupied s i → ¬ (Occupied s (parent s i)) → Walk s i (i ∷ [])
-  goes : (i : BlockSlot) (visits : List BlockSlot) → Occupied s i → Walk s (parent s i) visits → Walk s i (i ∷ visits)
+  ends : (i : BlockSlot) (there : Occupied s i) (last : ¬ (Occupied s (parent s i))) → Walk s i (i ∷ [])
+  goes : (i : BlockSlot) (visits : List BlockSlot) (there : Occupied s i) (walk : Walk s (parent s i) visits) → Walk s i (i ∷ visits)
 
 pub data Among (a : BlockSlot) : List BlockSlot → Type 0 where
   first : (visits : List BlockSlot) → Among a (a ∷ visits)
-  further : (i : BlockSlot) (visits : List BlockSlot) → Among a visits → Among a (i ∷ visits)
+  further : (i : BlockSlot) (visits : List BlockSlot) (among : Among a visits) → Among a (i ∷ visits)
 
 abbrev pub MeetsActive : (s : State) (visits : List BlockSlot) → Type 0
 MeetsActive s visits = (a : BlockSlot) × Among a visits × Active s a
 
 pub data FirstActive (s : State) (a : BlockSlot) : List BlockSlot → Type 0 where
-  here : (visits : List BlockSlot) → Active s a → FirstActive s a (a ∷ visits)
-  after : (i : BlockSlot) (visits : List BlockSlot) → ¬ (Active s i) → FirstActive s a visits → FirstActive s a (i ∷ visits)
+  here : (visits : List BlockSlot) (active : Active s a) → FirstActive s a (a ∷ visits)
+  after : (i : BlockSlot) (visits : List BlockSlot) (inactive : ¬ (Active s i)) (found : FirstActive s a visits)
+      → FirstActive s a (i ∷ visits)
 
 pub data Last (a : BlockSlot) : List BlockSlot → Type 0 where
   only : Last a (a ∷ [])
-  behind : (i : BlockSlot) (visits : List BlockSlot) → Last a visits → Last a (i ∷ visits)
+  behind : (i : BlockSlot) (visits : List BlockSlot) (last : Last a visits) → Last a (i ∷ visits)
 
 -- the head is connected exactly when its walk meets an active block; its anchor is the first such block, or else the last block of the walk
 pub record Anchored (s : State) (k : HeadSlot) : Type 0 where
@@ -97,8 +98,8 @@ pub record Anchored (s : State) (k : HeadSlot) : Type 0 where
 
 -- the line from the record down: from an active block on it to its parent, where that is active too
 pub data OnLine (s : State) : BlockSlot → Type 0 where
-  start : Active s (s .activeHead) → OnLine s (s .activeHead)
-  down : (i : BlockSlot) → OnLine s i → Active s (parent s i) → OnLine s (parent s i)
+  start : (active : Active s (s .activeHead)) → OnLine s (s .activeHead)
+  down : (i : BlockSlot) (line : OnLine s i) (active : Active s (parent s i)) → OnLine s (parent s i)
 
 -- ---- what a block is called, and what was said of it
 
@@ -114,19 +115,20 @@ pub record Made : Type 0 where
   pub call : Call
   pub answer : Answer
 
-unfoldable pub made : State → List Call → List Made
+unfoldable pub made : (s : State) (calls : List Call) → List Made
 made s [] = []
 made s (call ∷ calls) = record { call = call; answer = step s call .answer } ∷ made (step s call .after) calls
 
-abbrev pub Accepted : Answer → Type 0
+abbrev pub Accepted : (answer : Answer) → Type 0
 Accepted answer = (number : ℕ) → answer ≢ refused number
 
 -- an accepted promotion named the slot
 pub data Promoted (i : BlockSlot) : List Made → Type 0 where
-  accepts : (answer : Answer) (log : List Made) → Accepted answer → Promoted i (record { call = promoteCall i; answer = answer } ∷ log)
-  later : (made : Made) (log : List Made) → Promoted i log → Promoted i (made ∷ log)
+  accepts : (answer : Answer) (log : List Made) (accepted : Accepted answer)
+      → Promoted i (record { call = promoteCall i; answer = answer } ∷ log)
+  later : (made : Made) (log : List Made) (promoted : Promoted i log) → Promoted i (made ∷ log)
 
-abbrev pub slotReturned : Answer → Option BlockSlot
+abbrev pub slotReturned : (answer : Answer) → Option BlockSlot
 slotReturned (refused number) = none
 slotReturned done = none
 slotReturned (slot i) = some i
@@ -136,7 +138,7 @@ slotReturned noneDue = none
 slotReturned (dueAt time) = none
 slotReturned neverDue = none
 
-abbrev pub nameGiven : Call → Option Name
+abbrev pub nameGiven : (call : Call) → Option Name
 nameGiven (admitCall given hash previous arrival) = some (record { sequence = given; hash = hash })
 nameGiven (promoteCall i) = none
 nameGiven (removeCall i) = none
@@ -154,16 +156,18 @@ lastAdmitted i was (made ∷ log) = lastAdmitted i (if isAt (slotReturned (made 
 -- where there is no parent, `fork` and `rebuildAt`
 pub data Inserts (s : State) : Call → Tables → Type 0 where
   -- an admitted block without parent: it counts 1
-  root : (given : Sequence) (hash previous : Hash) (arrival : Time) (i : BlockSlot) → step s (admitCall given hash previous arrival) .answer ≡ slot i
-      → parentFound s given previous ≡ none
+  root : (given : Sequence) (hash previous : Hash) (arrival : Time) (i : BlockSlot)
+      → (accepted : step s (admitCall given hash previous arrival) .answer ≡ slot i)
+      → (noParent : parentFound s given previous ≡ none)
       → Inserts s (admitCall given hash previous arrival) (oneMore (inserted s i given hash previous) i)
   -- one whose parent is no head: it counts 1, and the parent one more
-  fork : (given : Sequence) (hash previous : Hash) (arrival : Time) (i p : BlockSlot) → step s (admitCall given hash previous arrival) .answer ≡ slot i
-      → parentFound s given previous ≡ some p → slotOfHead (s .tables .heads .tips) p ≡ none
+  fork : (given : Sequence) (hash previous : Hash) (arrival : Time) (i p : BlockSlot)
+      → (accepted : step s (admitCall given hash previous arrival) .answer ≡ slot i)
+      → (found : parentFound s given previous ≡ some p) (noHead : slotOfHead (s .tables .heads .tips) p ≡ none)
       → Inserts s (admitCall given hash previous arrival) (oneMore (oneMore (inserted s i given hash previous) i) p)
   -- a childless block of a restart: the slots below it have their heads
-  again : (now : Time) (i : BlockSlot) → step s (restartCall now) .answer ≡ done
-      → isLeaf (rebuiltBelow i (headless (s .tables)) now (s .activeHead)) i ≡ true
+  again : (now : Time) (i : BlockSlot) (accepted : step s (restartCall now) .answer ≡ done)
+      → (leaf : isLeaf (rebuiltBelow i (headless (s .tables)) now (s .activeHead)) i ≡ true)
       → Inserts s (restartCall now) (rebuiltBelow i (headless (s .tables)) now (s .activeHead))
 
 -- where no head slot is empty there is a victim

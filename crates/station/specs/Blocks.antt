@@ -6,14 +6,14 @@ use lib.Seq.{sets}
 use Rattle.rules.specs.Hashes.{putHash}
 use Rattle.rules.specs.declared.Block.{Block}
 
-abbrev pub isThere : Option Block → ℕ
+abbrev pub isThere : (block : Option Block) → ℕ
 isThere none = 0
 isThere (some block) = 1
 
-abbrev pub hashGot : Option Block → List ℕ → List ℕ
+abbrev pub hashGot : (block : Option Block) (bytes : List ℕ) → List ℕ
 hashGot none bytes = bytes
 hashGot (some block) bytes = putHash bytes 0 (block .hash)
 
-abbrev pub wordsGot : Option Block → List ℕ → List ℕ
+abbrev pub wordsGot : (block : Option Block) (words : List ℕ) → List ℕ
 wordsGot none words = words
 wordsGot (some block) words = sets words 0 (block .parent .0 ∷ block .sequence .0 ∷ block .count ∷ block .flags ∷ [])

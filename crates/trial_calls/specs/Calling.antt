@@ -15,7 +15,7 @@ use Rattle.trial_lines.specs.declared.Line.{Line}
 use Rattle.trial_lines.specs.declared.Line.the-variants.{Fresh, Admit, Promote, Remove, Timer, Restart, Unread}
 
 -- a hash is a line's byte 32 times; an unread line calls nothing
-unfoldable pub called : State → Line → Stepped
+unfoldable pub called : (s : State) (line : Line) → Stepped
 called s (Fresh n m) = fresh s
 called s (Admit sequence hash previous arrival) = step s (admitCall (sequence .0) (replicate hashLength hash) (replicate hashLength previous) arrival)
 called s (Promote block) = step s (promoteCall (block .0))
@@ -25,7 +25,7 @@ called s (Restart now) = step s (restartCall now)
 called s Unread = answering s done
 
 -- what a line prints whose call is just done
-unfoldable pub doneSaid : Line → List ℕ
+unfoldable pub doneSaid : (line : Line) → List ℕ
 doneSaid (Fresh n m) = []
 doneSaid (Admit sequence hash previous arrival) = []
 doneSaid (Promote block) = numberLine 80 (block .0)
@@ -34,10 +34,10 @@ doneSaid (Timer now retry) = []
 doneSaid (Restart now) = letterLine 82
 doneSaid Unread = letterLine 63
 
-unfoldable pub lineSaid : Line → Answer → List ℕ
+unfoldable pub lineSaid : (line : Line) (answer : Answer) → List ℕ
 lineSaid line answer = said (doneSaid line) answer
 
-unfoldable pub isRefused : Answer → Bool
+unfoldable pub isRefused : (answer : Answer) → Bool
 isRefused (refused number) = true
 isRefused done = false
 isRefused (slot new) = false
@@ -48,7 +48,7 @@ isRefused (dueAt time) = false
 isRefused neverDue = false
 
 -- whether a line brings new tables: N, unless refused
-unfoldable pub renews : Line → Answer → Bool
+unfoldable pub renews : (line : Line) (answer : Answer) → Bool
 renews (Fresh n m) answer = not (isRefused answer)
 renews (Admit sequence hash previous arrival) answer = false
 renews (Promote block) answer = false

@@ -7,21 +7,21 @@ use Rattle.rules.specs.Hashes.{hashLength}
 use Rattle.rules.specs.Records.{Tables, tablesOf}
 use Rattle.trial_fronts.specs.declared.Ends.{Ends}
 
-unfoldable pub front : (n m : ℕ) → Tables → Tables
+unfoldable pub front : (n m : ℕ) (t : Tables) → Tables
 front n m t =
     let b = t .blocks in
     let h = t .heads in
     tablesOf (take (n * hashLength) (b .hashes)) (take n (b .parents)) (take n (b .sequences)) (take n (b .counts)) (take n (b .flags))
     (take m (h .tips)) (take m (h .tails)) (take (m * hashLength) (h .missing)) (take m (h .requested)) (take m (h .arrivals)) (take m (h .connected))
 
-unfoldable pub behind : (n m : ℕ) → Tables → Tables
+unfoldable pub behind : (n m : ℕ) (t : Tables) → Tables
 behind n m t =
     let b = t .blocks in
     let h = t .heads in
     tablesOf (drop (n * hashLength) (b .hashes)) (drop n (b .parents)) (drop n (b .sequences)) (drop n (b .counts)) (drop n (b .flags))
     (drop m (h .tips)) (drop m (h .tails)) (drop (m * hashLength) (h .missing)) (drop m (h .requested)) (drop m (h .arrivals)) (drop m (h .connected))
 
-unfoldable pub before : Tables → Tables → Tables
+unfoldable pub before : (t u : Tables) → Tables
 before t u =
     let b = t .blocks in
     let h = t .heads in

@@ -8,14 +8,14 @@ use Rattle.trial_lines.specs.declared.Word.the-variants as word
 use Rattle.trial_lines.specs.declared.Byte.{Byte}
 use Rattle.trial_lines.specs.declared.Byte.the-variants as byte
 
-abbrev pub timeRead : Time → Option ℕ
+abbrev pub timeRead : (field : Time) → Option ℕ
 timeRead (time.Value n) = some n
 timeRead time.Unread = none
 
-abbrev pub wordRead : Word → Option ℕ
+abbrev pub wordRead : (field : Word) → Option ℕ
 wordRead (word.Value n) = some n
 wordRead word.Unread = none
 
-abbrev pub byteRead : Byte → Option ℕ
+abbrev pub byteRead : (field : Byte) → Option ℕ
 byteRead (byte.Value n) = some n
 byteRead byte.Unread = none

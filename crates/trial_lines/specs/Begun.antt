@@ -10,23 +10,23 @@ use Rattle.trial_lines.specs.declared.Line.{Line}
 use Rattle.trial_lines.specs.declared.Line.the-variants.{Unread}
 
 pub data Begun : Type 0 where
-  soFar : List ℕ → Begun
+  soFar : (bytes : List ℕ) → Begun
   tooLong : Begun
 
 -- a line has at most 128 bytes before its end
 abbrev pub lineMost : ℕ
 lineMost = 128
 
-unfoldable pub longer : Begun → ℕ → Begun
+unfoldable pub longer : (begun : Begun) (byte : ℕ) → Begun
 longer (soFar bytes) byte = if ltb (length bytes) lineMost then soFar (bytes ++ byte ∷ []) else tooLong
 longer tooLong byte = tooLong
 
-unfoldable pub hasBegun : Begun → Bool
+unfoldable pub hasBegun : (begun : Begun) → Bool
 hasBegun (soFar []) = false
 hasBegun (soFar (byte ∷ bytes)) = true
 hasBegun tooLong = true
 
-unfoldable pub lineBegun : Begun → Line
+unfoldable pub lineBegun : (begun : Begun) → Line
 lineBegun (soFar bytes) = parse bytes
 lineBegun tooLong = Unread
 

@@ -5,6 +5,7 @@ use mathlib.Core.Option.{Option, none, some}
 use Prim.Native.Nat.{ℕ, zero, suc, _+_, _*_, _-_}
 use lib.Dec.{eqb, ltb, leb}
 use lib.ListN.{length, getD, take, drop}
+use Rattle.rules.specs.Kinds.{Sequence, Time}
 use Rattle.rules.specs.Common.{if_then_else_}
 use Rattle.rules.specs.Records.{NONE}
 use Rattle.rules.specs.Timer.{maxTime}
@@ -14,38 +15,38 @@ use Rattle.trial_lines.specs.declared.Line.the-variants.{Fresh, Admit, P
 -- ---- fields
 
 -- the bytes before the first space
-unfoldable pub fieldLength : List ℕ → ℕ
+unfoldable pub fieldLength : (bytes : List ℕ) → ℕ
 fieldLength [] = 0
 fieldLength (b ∷ bytes) = if eqb b 32 then 0 else suc (fieldLength bytes)
 
-abbrev pub first : List ℕ → List ℕ
+abbrev pub first : (line : List ℕ) → List ℕ
 first line = take (fieldLength line) line
 
 -- what follows the first space; nothing where there is none
-abbrev pub rest : List ℕ → List ℕ
+abbrev pub rest : (line : List ℕ) → List ℕ
 rest line = drop (suc (fieldLength line)) line
 
 -- the first field if it is one byte
-abbrev pub letter : List ℕ → ℕ
+abbrev pub letter : (line : List ℕ) → ℕ
 letter line = if eqb (fieldLength line) 1 then getD line 0 0 else 0
 
 -- ---- numbers
 
 -- the digits 0 to 9 are the bytes 48 to 57
-abbrev pub isDigit : ℕ → Bool
+abbrev pub isDigit : (byte : ℕ) → Bool
 isDigit b = leb 48 b && leb b 57
 
-unfoldable pub allDigits : List ℕ → Bool
+unfoldable pub allDigits : (bytes : List ℕ) → Bool
 allDigits [] = true
 allDigits (b ∷ bytes) = isDigit b && allDigits bytes
 
 -- the value of digits that follow those of n
-unfoldable pub valueFrom : ℕ → List ℕ → ℕ
+unfoldable pub valueFrom : (n : ℕ) (bytes : List ℕ) → ℕ
 valueFrom n [] = n
 valueFrom n (b ∷ bytes) = valueFrom (n * 10 + (b - 48)) bytes
 
 -- one digit or more, of a value that is not too large
-unfoldable pub number : ℕ → List ℕ → Option ℕ
+unfoldable pub number : (most : ℕ) (bytes : List ℕ) → Option ℕ
 number most bytes =
     if ltb 0 (length bytes) && (allDigits bytes && leb (valueFrom 0 bytes) most) then some (valueFrom 0 bytes) else none
 
@@ -58,15 +59,15 @@ timeMost = maxTime
 
 -- ---- hashes: two hexadecimal digits, a to f the bytes 97 to 102
 
-abbrev pub hexDigit : ℕ → Option ℕ
+abbrev pub hexDigit : (byte : ℕ) → Option ℕ
 hexDigit b = if isDigit b then some (b - 48) else if leb 97 b && leb b 102 then some (b - 87) else none
 
-abbrev pub twoDigits : Option ℕ → Option ℕ → Option ℕ
+abbrev pub twoDigits : (high low : Option ℕ) → Option ℕ
 twoDigits none low = none
 twoDigits (some high) none = none
 twoDigits (some high) (some low) = some (high * 16 + low)
 
-unfoldable pub hashByte : List ℕ → Option ℕ
+unfoldable pub hashByte : (bytes : List ℕ) → Option ℕ
 hashByte bytes = if eqb (length bytes) 2 then twoDigits (hexDigit (getD bytes 0 0)) (hexDigit (getD bytes 1 0)) else none
 
 -- ---- lines; a line with a field that cannot be read is unread
@@ -76,23 +77,23 @@ freshRead none m = Unread
 freshRead (some n) none = Unread
 freshRead (some n) (some m) = Fresh n m
 
-abbrev pub admitRead : (sequence hash previous arrival : Option ℕ) → Line
+abbrev pub admitRead : (sequence : Option Sequence) (hash previous : Option ℕ) (arrival : Option Time) → Line
 admitRead none h p a = Unread
 admitRead (some s) none p a = Unread
 admitRead (some s) (some h) none a = Unread
 admitRead (some s) (some h) (some p) none = Unread
 admitRead (some s) (some h) (some p) (some a) = Admit (record { 0 = s }) h p a
 
-abbrev pub timerRead : (clock retry : Option ℕ) → Line
+abbrev pub timerRead : (clock retry : Option Time) → Line
 timerRead none r = Unread
 timerRead (some c) none = Unread
 timerRead (some c) (some r) = Timer c r
 
 -- what follows the letter; the last field is all that is left
-unfoldable pub freshOf : List ℕ → Line
+unfoldable pub freshOf : (fields : List ℕ) → Line
 freshOf fields = freshRead (number wordMost (first fields)) (number wordMost (rest fields))
 
-unfoldable pub admitOf : List ℕ → Line
+unfoldable pub admitOf : (fields : List ℕ) → Line
 admitOf fields =
     admitRead
     (number wordMost (first fields))
@@ -100,20 +101,20 @@ admitOf fields =
     (hashByte (first (rest (rest fields))))
     (number timeMost (rest (rest (rest fields))))
 
-unfoldable pub promoteOf : List ℕ → Line
+unfoldable pub promoteOf : (fields : List ℕ) → Line
 promoteOf fields = elim (number wordMost fields) [ none ↦ Unread | some slot ↦ Promote (record { 0 = slot }) ]
 
-unfoldable pub removeOf : List ℕ → Line
+unfoldable pub removeOf : (fields : List ℕ) → Line
 removeOf fields = elim (number wordMost fields) [ none ↦ Unread | some slot ↦ Remove (record { 0 = slot }) ]
 
-unfoldable pub timerOf : List ℕ → Line
+unfoldable pub timerOf : (fields : List ℕ) → Line
 timerOf fields = timerRead (number timeMost (first fields)) (number timeMost (rest fields))
 
-unfoldable pub restartOf : List ℕ → Line
+unfoldable pub restartOf : (fields : List ℕ) → Line
 restartOf fields = elim (number timeMost fields) [ none ↦ Unread | some clock ↦ Restart clock ]
 
 -- N is 78, A 65, P 80, D 68, T 84, R 82
-unfoldable pub parse : List ℕ → Line
+unfoldable pub parse : (line : List ℕ) → Line
 parse line =
     if eqb (letter line) 78 then freshOf (rest line)
     else if eqb (letter line) 65 then admitOf (rest line)

@@ -7,7 +7,7 @@ use Rattle.rules.specs.Answers.{Answer, refused, done, slot, freed, request, no
 use Rattle.trial_lines.specs.Writing.{numberLine, requestLine, noneDueLine}
 
 -- a hash is one byte 32 times, so its first says all; no line asks for a deadline
-abbrev pub said : (whenDone : List ℕ) → Answer → List ℕ
+abbrev pub said : (whenDone : List ℕ) (answer : Answer) → List ℕ
 said whenDone (refused number) = numberLine 69 number
 said whenDone done = whenDone
 said whenDone (slot new) = numberLine 65 new

@@ -3,6 +3,7 @@ use mathlib.Core.Bool.{Bool, true, false}
 use mathlib.Core.List.{List, [], _∷_, _++_}
 use Prim.Native.Nat.{ℕ, zero, suc, _+_, _/_, _%_, min, max}
 use lib.Dec.{eqb, ltb}
+use Rattle.rules.specs.Kinds.{BlockSlot, HeadSlot, Sequence}
 use Rattle.rules.specs.Common.{if_then_else_}
 use Rattle.rules.specs.Records.{NONE}
 
@@ -13,7 +14,7 @@ place room at k = max at (min (at + k) room)
 -- ---- numbers
 
 -- the last digit
-abbrev pub digit : ℕ → ℕ
+abbrev pub digit : (n : ℕ) → ℕ
 digit n = 48 + n % 10
 
 -- in at most so many places
@@ -22,35 +23,35 @@ digitsIn zero n = []
 digitsIn (suc places) n = if ltb n 10 then digit n ∷ [] else digitsIn places (n / 10) ++ digit n ∷ []
 
 -- a number of 64 bits has at most 20
-unfoldable pub digits : ℕ → List ℕ
+unfoldable pub digits : (n : ℕ) → List ℕ
 digits n = digitsIn 20 n
 
 -- 0 to 9, then a to f
-abbrev pub hexChar : ℕ → ℕ
+abbrev pub hexChar : (value : ℕ) → ℕ
 hexChar d = if ltb d 10 then 48 + d else 87 + d
 
-unfoldable pub hex : ℕ → List ℕ
+unfoldable pub hex : (byte : ℕ) → List ℕ
 hex byte = hexChar (byte / 16 % 16) ∷ hexChar (byte % 16) ∷ []
 
 -- ---- fields, each after a space
 
-unfoldable pub field : ℕ → List ℕ
+unfoldable pub field : (n : ℕ) → List ℕ
 field n = 32 ∷ digits n
 
 -- - is none
-unfoldable pub reference : ℕ → List ℕ
+unfoldable pub reference : (slot : BlockSlot) → List ℕ
 reference slot = if eqb slot NONE then 32 ∷ 45 ∷ [] else field slot
 
 -- ---- lines
 
-unfoldable pub letterLine : ℕ → List ℕ
+unfoldable pub letterLine : (letter : ℕ) → List ℕ
 letterLine letter = letter ∷ 10 ∷ []
 
 unfoldable pub numberLine : (letter n : ℕ) → List ℕ
 numberLine letter n = letter ∷ (field n ++ 10 ∷ [])
 
 -- T head claimed hash
-unfoldable pub requestLine : (head claimed hash : ℕ) → List ℕ
+unfoldable pub requestLine : (head : HeadSlot) (claimed : Sequence) (hash : ℕ) → List ℕ
 requestLine head claimed hash = 84 ∷ (field head ++ (field claimed ++ 32 ∷ (hex hash ++ 10 ∷ [])))
 
 -- T -
@@ -58,11 +59,11 @@ unfoldable pub noneDueLine : List ℕ
 noneDueLine = 84 ∷ 32 ∷ 45 ∷ 10 ∷ []
 
 -- B slot sequence parent count active
-unfoldable pub blockLine : (slot sequence parent count : ℕ) → Bool → List ℕ
+unfoldable pub blockLine : (slot : BlockSlot) (sequence : Sequence) (parent : BlockSlot) (count : ℕ) (active : Bool) → List ℕ
 blockLine slot sequence parent count active =
     66 ∷ (field slot ++ (field sequence ++ (reference parent ++ (field count ++ 32 ∷ (if active then 49 else 48) ∷ 10 ∷ []))))
 
 -- H slot tip C-or-S anchor
-unfoldable pub headLine : (slot tip : ℕ) → Bool → (anchor : ℕ) → List ℕ
+unfoldable pub headLine : (slot : HeadSlot) (tip : BlockSlot) (connected : Bool) (anchor : BlockSlot) → List ℕ
 headLine slot tip connected anchor =
     72 ∷ (field slot ++ (reference tip ++ 32 ∷ (if connected then 67 else 83) ∷ (reference anchor ++ 10 ∷ [])))

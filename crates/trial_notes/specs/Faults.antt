@@ -12,7 +12,7 @@ use Rattle.trial_notes.specs.declared.Reason.the-variants.{Empty, Carria
 use Rattle.trial_notes.specs.declared.Fault.{Fault}
 use Rattle.trial_notes.specs.declared.Fault.the-variants.{Nothing, Is}
 
-abbrev pub isNothing : Fault → Bool
+abbrev pub isNothing : (fault : Fault) → Bool
 isNothing Nothing = true
 isNothing (Is why) = false
 
@@ -22,7 +22,7 @@ unless Nothing later = later
 unless (Is why) later = Is why
 
 -- what is read has no fault
-abbrev pub found : Option ℕ → Reason → Fault
+abbrev pub found : (read : Option ℕ) (why : Reason) → Fault
 found none why = Is why
 found (some n) why = Nothing
 
@@ -35,29 +35,29 @@ numberFault most larger field =
     else if allDigits field then found (number most field) larger
     else Is NoNumber
 
-abbrev pub wordFault : List ℕ → Fault
+abbrev pub wordFault : (field : List ℕ) → Fault
 wordFault = numberFault wordMost WordTooLarge
 
-abbrev pub timeFault : List ℕ → Fault
+abbrev pub timeFault : (field : List ℕ) → Fault
 timeFault = numberFault timeMost TimeTooLarge
 
 -- A to F are the bytes 65 to 70, a to f 97 to 102
-abbrev pub lowered : ℕ → ℕ
+abbrev pub lowered : (byte : ℕ) → ℕ
 lowered b = if leb 65 b && leb b 70 then b + 32 else b
 
-unfoldable pub hashReason : List ℕ → Reason
+unfoldable pub hashReason : (field : List ℕ) → Reason
 hashReason field =
     if eqb (length field) 2 && isSome (hashByte (lowered (getD field 0 0) ∷ lowered (getD field 1 0) ∷ [])) then UpperHash else NoHash
 
-unfoldable pub hashFault : List ℕ → Fault
+unfoldable pub hashFault : (field : List ℕ) → Fault
 hashFault field = if eqb (length field) 0 then Is FieldMissing else found (hashByte field) (hashReason field)
 
 -- ---- a field at the start of what is left of a line: with others after it, and the last
 
-unfoldable pub inner : (List ℕ → Fault) → List ℕ → Fault
+unfoldable pub inner : (fault : List ℕ → Fault) (left : List ℕ) → Fault
 inner fault left = if eqb (getD left 0 0) 32 then Is SpaceTwice else fault (first left)
 
-unfoldable pub last : (List ℕ → Fault) → List ℕ → Fault
+unfoldable pub last : (fault : List ℕ → Fault) (left : List ℕ) → Fault
 last fault left =
     if eqb (getD left 0 0) 32 then Is SpaceTwice
     else if ltb (fieldLength left) (length left) then Is FieldExtra
@@ -65,28 +65,28 @@ last fault left =
 
 -- ---- what follows the letter
 
-unfoldable pub freshFault : List ℕ → Fault
+unfoldable pub freshFault : (fields : List ℕ) → Fault
 freshFault fields = unless (inner wordFault fields) (last wordFault (rest fields))
 
-unfoldable pub admitFault : List ℕ → Fault
+unfoldable pub admitFault : (fields : List ℕ) → Fault
 admitFault fields =
     unless (inner wordFault fields)
     (unless (inner hashFault (rest fields))
     (unless (inner hashFault (rest (rest fields)))
     (last timeFault (rest (rest (rest fields))))))
 
-unfoldable pub timerFault : List ℕ → Fault
+unfoldable pub timerFault : (fields : List ℕ) → Fault
 timerFault fields = unless (inner timeFault fields) (last timeFault (rest fields))
 
 -- ---- the letter: N is 78, A 65, P 80, D 68, T 84, R 82, in lower case 32 more
 
-unfoldable pub isLetter : ℕ → Bool
+unfoldable pub isLetter : (byte : ℕ) → Bool
 isLetter b = eqb b 78 || (eqb b 65 || (eqb b 80 || (eqb b 68 || (eqb b 84 || eqb b 82))))
 
-unfoldable pub letterFault : ℕ → Fault
+unfoldable pub letterFault : (byte : ℕ) → Fault
 letterFault b = Is (if isLetter (b - 32) then LowerLetter else NoLetter)
 
-unfoldable pub fieldsFault : List ℕ → Fault
+unfoldable pub fieldsFault : (line : List ℕ) → Fault
 fieldsFault line =
     if eqb (letter line) 78 then freshFault (rest line)
     else if eqb (letter line) 65 then admitFault (rest line)
@@ -98,10 +98,10 @@ fieldsFault line =
 
 -- ---- the line: a carriage return is 13, a space 32
 
-abbrev pub lastByte : List ℕ → ℕ
+abbrev pub lastByte : (line : List ℕ) → ℕ
 lastByte line = getD line (length line - 1) 0
 
-unfoldable pub faultOf : List ℕ → Fault
+unfoldable pub faultOf : (line : List ℕ) → Fault
 faultOf line =
     if eqb (length line) 0 then Is Empty
     else if eqb (lastByte line) 13 then Is CarriageReturn

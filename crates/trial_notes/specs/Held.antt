@@ -16,25 +16,25 @@ pub record Held : Type 0 where
   pub line : List ℕ
   pub noting : Noting
 
-abbrev pub heldOf : List ℕ → Noting → Held
+abbrev pub heldOf : (line : List ℕ) (noting : Noting) → Held
 heldOf line noting = record { line = line; noting = noting }
 
 -- before anything came
 abbrev pub newNoting : Noting
 newNoting = record { number = 1; begun = 0 }
 
-unfoldable pub countIn : Held → Count
+unfoldable pub countIn : (h : Held) → Count
 countIn h = record { number = h .noting .number; begun = begunOf (h .line) (h .noting .begun) }
 
 -- ---- after bytes
 
-unfoldable pub heldByte : Held → ℕ → Held
+unfoldable pub heldByte : (h : Held) (byte : ℕ) → Held
 heldByte h byte =
     let z = h .noting in
     if eqb byte 10 then heldOf (h .line) (record { number = nextNumber (z .number); begun = 0 })
     else heldOf (set (h .line) (z .begun) byte) (record { number = z .number; begun = min (z .begun + 1) (lineMost + 1) })
 
-unfoldable pub heldFed : Held → List ℕ → Held
+unfoldable pub heldFed : (h : Held) (bytes : List ℕ) → Held
 heldFed h [] = h
 heldFed h (byte ∷ bytes) = heldFed (heldByte h byte) bytes
 

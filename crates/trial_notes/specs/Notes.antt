@@ -20,24 +20,24 @@ pub record Told : Type 0 where
   pub count : Count
   pub said : List ℕ
 
-unfoldable pub begunFault : Begun → Fault
+unfoldable pub begunFault : (begun : Begun) → Fault
 begunFault (soFar bytes) = faultOf bytes
 begunFault tooLong = Is TooLong
 
 -- lines are counted in 64 bits, up to the largest number
-abbrev pub nextNumber : ℕ → ℕ
+abbrev pub nextNumber : (number : ℕ) → ℕ
 nextNumber number = min (number + 1) 18446744073709551615
 
-unfoldable pub lineNoted : Count → List ℕ
+unfoldable pub lineNoted : (c : Count) → List ℕ
 lineNoted c = noteText (c .number) (begunFault (c .begun))
 
 -- the end of a line is the byte 10
-unfoldable pub notedByte : Count → ℕ → Told
+unfoldable pub notedByte : (c : Count) (byte : ℕ) → Told
 notedByte c byte =
     if eqb byte 10 then record { count = record { number = nextNumber (c .number); begun = soFar [] }; said = lineNoted c }
     else record { count = record { number = c .number; begun = longer (c .begun) byte }; said = [] }
 
-unfoldable pub noted : Count → List ℕ → Told
+unfoldable pub noted : (c : Count) (bytes : List ℕ) → Told
 noted c [] = record { count = c; said = [] }
 noted c (byte ∷ bytes) =
     let f = notedByte c byte in
@@ -45,7 +45,7 @@ noted c (byte ∷ bytes) =
     record { count = g .count; said = f .said ++ g .said }
 
 -- the last line may lack its end
-unfoldable pub lastNoted : Count → List ℕ
+unfoldable pub lastNoted : (c : Count) → List ℕ
 lastNoted c = if hasBegun (c .begun) then lineNoted c else []
 
 -- ---- the whole
@@ -53,10 +53,10 @@ lastNoted c = if hasBegun (c .begun) then lineNoted c else []
 unfoldable pub start : Count
 start = record { number = 1; begun = soFar [] }
 
-unfoldable pub notes : List ℕ → List ℕ
+unfoldable pub notes : (input : List ℕ) → List ℕ
 notes input = let f = noted start input in f .said ++ lastNoted (f .count)
 
 -- the same as a program reads it: chunk after chunk
-unfoldable pub inChunks : Count → List (List ℕ) → List ℕ
+unfoldable pub inChunks : (c : Count) (chunks : List (List ℕ)) → List ℕ
 inChunks c [] = lastNoted c
 inChunks c (chunk ∷ chunks) = let f = noted c chunk in f .said ++ inChunks (f .count) chunks

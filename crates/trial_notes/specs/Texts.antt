@@ -8,7 +8,7 @@ use Rattle.trial_notes.specs.declared.Reason.the-variants.{TooLong, Empt
 use Rattle.trial_notes.specs.declared.Fault.{Fault}
 use Rattle.trial_notes.specs.declared.Fault.the-variants.{Nothing, Is}
 
-unfoldable pub reasonText : Reason → List ℕ
+unfoldable pub reasonText : (why : Reason) → List ℕ
 reasonText TooLong = bytes "more than 128 bytes"
 reasonText Empty = bytes "empty"
 reasonText CarriageReturn = bytes "a carriage return at its end"
@@ -26,6 +26,6 @@ reasonText NoHash = bytes "a hash is not two hexadecimal digits"
 reasonText UpperHash = bytes "a hash is in upper case"
 
 -- the end of a line is the byte 10
-unfoldable pub noteText : (number : ℕ) → Fault → List ℕ
+unfoldable pub noteText : (number : ℕ) (fault : Fault) → List ℕ
 noteText number Nothing = []
 noteText number (Is why) = bytes "line " ++ (digits number ++ (bytes ": " ++ (reasonText why ++ 10 ∷ [])))

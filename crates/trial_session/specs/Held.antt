@@ -6,6 +6,7 @@ use Prim.Native.Nat.{ℕ, _+_, _*_, min}
 use lib.Dec.{eqb}
 use lib.ListN.{length, set, drop}
 use lib.Seq.{sets}
+use Rattle.rules.specs.Kinds.{BlockSlot}
 use Rattle.rules.specs.Common.{if_then_else_}
 use Rattle.rules.specs.Records.{Tables, NONE}
 use Rattle.rules.specs.Calls.{State, Stepped, stateOf, maxBlocks, maxHeads}
@@ -36,22 +37,22 @@ pub record Held : Type 0 where
 abbrev pub newTrial : Trial
 newTrial = record { n = 0; m = 0; active = record { 0 = NONE }; begun = 0 }
 
-abbrev pub heldOf : Tables → List ℕ → Trial → Held
+abbrev pub heldOf : (arrays : Tables) (line : List ℕ) (trial : Trial) → Held
 heldOf arrays line trial = record { arrays = arrays; line = line; trial = trial }
 
-unfoldable pub stateIn : Held → State
+unfoldable pub stateIn : (h : Held) → State
 stateIn h = stateOf (front (h .trial .n) (h .trial .m) (h .arrays)) (h .trial .active .0)
 
-unfoldable pub begunIn : Held → Begun
+unfoldable pub begunIn : (h : Held) → Begun
 begunIn h = begunOf (h .line) (h .trial .begun)
 
-unfoldable pub sessionIn : Held → Session
+unfoldable pub sessionIn : (h : Held) → Session
 sessionIn h = record { state = stateIn h; begun = begunIn h }
 
 -- ---- after a line
 
 -- the sizes that a line asks for: N its own
-unfoldable pub asked : Trial → Line → Trial
+unfoldable pub asked : (trial : Trial) (line : Line) → Trial
 asked z (Fresh n m) = record { n = n; m = m; active = z .active; begun = z .begun }
 asked z (Admit sequence hash previous arrival) = z
 asked z (Promote slot) = z
@@ -61,38 +62,38 @@ asked z (Restart now) = z
 asked z Unread = z
 
 -- a trial of these sizes with a new line before it
-unfoldable pub sizesAfter : Trial → (active : ℕ) → Trial
+unfoldable pub sizesAfter : (trial : Trial) (active : BlockSlot) → Trial
 sizesAfter z active = record { n = z .n; m = z .m; active = record { 0 = active }; begun = 0 }
 
-unfoldable pub trialAfter : Trial → Line → Stepped → Trial
+unfoldable pub trialAfter : (trial : Trial) (line : Line) (done : Stepped) → Trial
 trialAfter z line d = sizesAfter (if renews line (d .answer) then asked z line else z) (d .after .activeHead)
 
-unfoldable pub heldLine : Held → Line → Held
+unfoldable pub heldLine : (h : Held) (line : Line) → Held
 heldLine h line =
     let d = lineDone (stateIn h) line in
     let z = trialAfter (h .trial) line d in
     heldOf (before (d .after .tables) (behind (z .n) (z .m) (h .arrays))) (h .line) z
 
-unfoldable pub heldEnded : Held → Held
+unfoldable pub heldEnded : (h : Held) → Held
 heldEnded h = heldLine h (lineBegun (begunIn h))
 
 -- ---- after bytes
 
-unfoldable pub heldJoined : Held → ℕ → Held
+unfoldable pub heldJoined : (h : Held) (byte : ℕ) → Held
 heldJoined h byte =
     let z = h .trial in
     heldOf (h .arrays) (set (h .line) (z .begun) byte) (record { n = z .n; m = z .m; active = z .active; begun = min (z .begun + 1) (lineMost + 1) })
 
-unfoldable pub heldByte : Held → ℕ → Held
+unfoldable pub heldByte : (h : Held) (byte : ℕ) → Held
 heldByte h byte = if eqb byte 10 then heldEnded h else heldJoined h byte
 
-unfoldable pub heldFed : Held → List ℕ → Held
+unfoldable pub heldFed : (h : Held) (bytes : List ℕ) → Held
 heldFed h [] = h
 heldFed h (byte ∷ bytes) = heldFed (heldByte h byte) bytes
 
 -- ---- after the last line
 
-unfoldable pub heldClosed : Held → Held
+unfoldable pub heldClosed : (h : Held) → Held
 heldClosed h = if hasBegun (begunIn h) then heldEnded h else h
 
 -- how many bytes what is printed, of a chunk or at the end, may have: a byte makes no more than 96, and a slot at the end

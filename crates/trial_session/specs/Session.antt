@@ -14,11 +14,11 @@ use Rattle.trial_listing.specs.Listing.{listingOf}
 -- ---- a line
 
 -- a refused N keeps the old tables
-unfoldable pub unlessRefused : State → Stepped → Stepped
+unfoldable pub unlessRefused : (s : State) (done : Stepped) → Stepped
 unlessRefused s d = if isRefused (d .answer) then answering s (d .answer) else d
 
 -- N n m makes tables of n and m slots fresh; the other lines call on the tables that are there
-unfoldable pub lineDone : State → Line → Stepped
+unfoldable pub lineDone : (s : State) (line : Line) → Stepped
 lineDone s (Fresh n m) = unlessRefused s (fresh (freshState n m))
 lineDone s (Admit sequence hash previous arrival) = called s (Admit sequence hash previous arrival)
 lineDone s (Promote slot) = called s (Promote slot)
@@ -39,21 +39,21 @@ pub record Fed : Type 0 where
   pub said : List ℕ
 
 -- a line is done, and the next begins
-unfoldable pub lineFed : State → Line → Fed
+unfoldable pub lineFed : (s : State) (line : Line) → Fed
 lineFed s line =
     let d = lineDone s line in
     record { session = record { state = d .after; begun = soFar [] }; said = lineSaid line (d .answer) }
 
-unfoldable pub ended : Session → Fed
+unfoldable pub ended : (s : Session) → Fed
 ended s = lineFed (s .state) (lineBegun (s .begun))
 
 -- the end of a line is the byte 10
-unfoldable pub fedByte : Session → ℕ → Fed
+unfoldable pub fedByte : (s : Session) (byte : ℕ) → Fed
 fedByte s byte =
     if eqb byte 10 then ended s
     else record { session = record { state = s .state; begun = longer (s .begun) byte }; said = [] }
 
-unfoldable pub fed : Session → List ℕ → Fed
+unfoldable pub fed : (s : Session) (bytes : List ℕ) → Fed
 fed s [] = record { session = s; said = [] }
 fed s (byte ∷ bytes) =
     let f = fedByte s byte in
@@ -63,14 +63,14 @@ fed s (byte ∷ bytes) =
 -- ---- the end
 
 -- the last line may lack its end
-unfoldable pub lastEnded : Session → Fed
+unfoldable pub lastEnded : (s : Session) → Fed
 lastEnded s = if hasBegun (s .begun) then ended s else record { session = s; said = [] }
 
-unfoldable pub tablesListed : Tables → List ℕ
+unfoldable pub tablesListed : (t : Tables) → List ℕ
 tablesListed t =
     listingOf (t .blocks .parents) (t .blocks .sequences) (t .blocks .counts) (t .blocks .flags) (t .heads .tips) (t .heads .tails) (t .heads .connected)
 
-unfoldable pub closing : Session → List ℕ
+unfoldable pub closing : (s : Session) → List ℕ
 closing s = let f = lastEnded s in f .said ++ tablesListed (f .session .state .tables)
 
 -- ---- the whole
@@ -79,10 +79,10 @@ closing s = let f = lastEnded s in f .said ++ tablesListed (f .session .state .t
 unfoldable pub start : Session
 start = record { state = freshState 0 0; begun = soFar [] }
 
-unfoldable pub transcript : List ℕ → List ℕ
+unfoldable pub transcript : (input : List ℕ) → List ℕ
 transcript input = let f = fed start input in f .said ++ closing (f .session)
 
 -- the same as a program reads it: chunk after chunk
-unfoldable pub inChunks : Session → List (List ℕ) → List ℕ
+unfoldable pub inChunks : (s : Session) (chunks : List (List ℕ)) → List ℕ
 inChunks s [] = closing s
 inChunks s (chunk ∷ chunks) = let f = fed s chunk in f .said ++ inChunks (f .session) chunks

@@ -37,7 +37,7 @@ sets-append l (x ∷ vs) v i =
     sets-append (set l i x) vs v (suc i) ∙ ap (λ (j : ℕ). set (sets (set l i x) (suc i) vs) j v) e
 
 -- stores past the end do nothing
-sets-out : (l vs : List ℕ) (i : ℕ) → length l ≤ i → sets l i vs ≡ l
+pub sets-out : (l vs : List ℕ) (i : ℕ) → length l ≤ i → sets l i vs ≡ l
 sets-out l [] i h = refl
 sets-out l (v ∷ vs) i h = rw (set-out l i v h) (sets-out l vs (suc i) (omega arith))
 

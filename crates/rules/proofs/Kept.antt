@@ -2,7 +2,6 @@
 
 -- numbers, bytes and the block table
 pub mod Counting
-pub mod Choice
 pub mod Bytes
 pub mod Table
 pub mod Slots

@@ -8,16 +8,10 @@ use native.Mathlib.Numerals.{add-one}
 use native.Mathlib.Omega.{arith}
 use borrow.Author.Tests.{lt-ltb, le-ltb}
 use lib.ListN.{length, getD, set, take, drop, length-append}
-use lib.Seq.{sets, sets-eq, set-out, length-sets, take-suc, take-all}
+use lib.Seq.{sets, sets-eq, length-sets, take-suc, take-all}
 use Rattle.rules.proofs.Splits.{less?}
+use Rattle.rules.proofs.Cells.{sets-out}
 use Rattle.trial_lines.specs.Writing.{place, digit, digitsIn}
-
--- past the end nothing is written
-pub sets-past : (l vs : List ℕ) (i : ℕ) → length l ≤ i → sets l i vs ≡ l
-sets-past l [] i h = refl
-sets-past l (v ∷ vs) i h =
-    let e : set l i v ≡ l = set-out l i v h in
-    rw e (sets-past l vs (suc i) (omega arith))
 
 pub sets-then : (l xs ys : List ℕ) (i : ℕ) → sets (sets l i xs) (i + length xs) ys ≡ sets l i (xs ++ ys)
 sets-then l [] ys i = rw add-zero
@@ -39,8 +33,8 @@ sets-place l xs ys at =
     let k = length-sets l at xs in
     less? (at + length xs) (length l)
     (λ h. let e : max at (min (at + length xs) (length l)) ≡ at + length xs = omega arith in rw e (sets-then l xs ys at))
-    (λ h. sets-past (sets l at xs) ys (max at (min (at + length xs) (length l))) (omega arith)
-    ∙ sym (sets-past (sets l at xs) ys (at + length xs) (omega arith))
+    (λ h. sets-out (sets l at xs) ys (max at (min (at + length xs) (length l))) (omega arith)
+    ∙ sym (sets-out (sets l at xs) ys (at + length xs) (omega arith))
     ∙ sets-then l xs ys at)
 
 pub put-then : (l m o xs ys : List ℕ) (at r s : ℕ) → Put l at xs m r → Put m r ys o s → Put l at (xs ++ ys) o s

@@ -9,6 +9,7 @@ use lib.Dec.{eqb}
 use borrow.Author.Tests.{eq-eqb, ne-eqb}
 use Rattle.rules.specs.Common.{if_then_else_, countBelow}
 use Rattle.rules.proofs.Splits.{split, same?}
+use Rattle.rules.proofs.Each.{count-some}
 
 -- 1 for a test that passes, and 0 for one that fails
 abbrev bit : Bool → ℕ
@@ -57,13 +58,6 @@ count-drop p q (suc n) i l hp hq h = same? n i
     rw (hp′, hq′, count-ext p q n (λ j k. h j (omega arith) (omega arith))) (omega arith))
     (λ ne. rw (h n (omega arith) ne) (omega (arith, count-drop p q n i (omega arith) hp hq (λ j k. h j (omega arith)))))
 
-pub count-pos : (p : ℕ → Bool) (n i : ℕ) → i < n → p i ≡ true → 0 < countBelow p n
-unfolding countBelow
-count-pos p zero i l e = absurd (omega arith)
-count-pos p (suc n) i l e = same? n i
-    (λ q. let e′ : p n ≡ true = rw q e in rw e′ (omega arith))
-    (λ ne. omega (arith, count-pos p n i (omega arith) e))
-
 -- one that is counted
 pub count-find : (p : ℕ → Bool) (n : ℕ) → 0 < countBelow p n → (i : ℕ) × (i < n) × (p i ≡ true)
 unfolding countBelow
@@ -74,7 +68,7 @@ count-find p (suc n) h = split (p n)
 
 -- not one of the first n passes, or one does
 pub count-zero : (p : ℕ → Bool) (n i : ℕ) → countBelow p n ≡ 0 → i < n → p i ≡ false
-count-zero p n i h l = split (p i) (λ e. absurd (omega (arith, count-pos p n i l e))) (λ e. e)
+count-zero p n i h l = split (p i) (λ e. absurd (omega (arith, count-some p n i l e))) (λ e. e)
 
 -- q counts all that p does, and i, which p does not
 pub count-less : (p q : ℕ → Bool) (n i : ℕ) → i < n → p i ≡ false → q i ≡ true

@@ -12,7 +12,7 @@ use Rattle.rules.specs.Records.{NONE, Blocks, Heads, tipAt, slotsOf, occ
 use Rattle.rules.specs.Eviction.{blockBefore, mayGo, victim, evictFrom, evict, evictOne}
 use Rattle.rules.specs.Promises.{childrenOf}
 use Rattle.rules.proofs.Splits.{same?, and-true, true-not-false}
-use Rattle.rules.proofs.Kept.Choice.{best-passes, best-none}
+use Rattle.rules.proofs.Best.{best-holds, best-misses}
 use Rattle.rules.proofs.Kept.Table.{size, isOccupied, Shape, kids-slots}
 use Rattle.rules.proofs.Kept.Freed.{Owed, Freed, all-freed, freed-kept}
 use Rattle.rules.proofs.Kept.Steady.{freed-leaf, freed-back, freed-active, freed-childless, freed-ends}
@@ -80,7 +80,7 @@ module _ (hashes sequences tips : List ℕ) (activeHead : ℕ) where
   pub victim-some : (v : ℕ) → victim hashes sequences tips activeHead ≡ some v → (used tips v ≡ true) × (tipAt tips v ≢ activeHead)
   unfolding victim mayGo
   victim-some v e =
-      let b = best-passes (mayGo sequences tips activeHead) (λ j k. blockBefore hashes sequences (tipAt tips j) (tipAt tips k)) _ v e in
+      let b = best-holds (mayGo sequences tips activeHead) (λ j k. blockBefore hashes sequences (tipAt tips j) (tipAt tips k)) _ v e in
       let c = and-true (used tips v && not (eqb (tipAt tips v) activeHead)) (occupied sequences (tipAt tips v)) (b .1) in
       let d = and-true (used tips v) (not (eqb (tipAt tips v) activeHead)) (c .0) in
       (d .0, eqb-false (tipAt tips v) activeHead (not-true (eqb (tipAt tips v) activeHead) (d .1)))
@@ -90,7 +90,7 @@ module _ (hashes sequences tips : List ℕ) (activeHead : ℕ) where
   victim-none e s l u o = same? (tipAt tips s) activeHead (λ q. q) (λ ne.
       true-not-false {b = mayGo sequences tips activeHead s}
       (rw (u, ne-eqb (tipAt tips s) activeHead ne, o))
-      (best-none (mayGo sequences tips activeHead) (λ j k. blockBefore hashes sequences (tipAt tips j) (tipAt tips k)) _ s e l))
+      (best-misses (mayGo sequences tips activeHead) (λ j k. blockBefore hashes sequences (tipAt tips j) (tipAt tips k)) _ s e l))
 
 -- of two heads one is not the active one
 pub victim-there : (t : Blocks) (h : Heads) (activeHead : ℕ) → Room h → Apart h → ((s : ℕ) → inUse h s ≡ true → isOccupied t (tipOf h s) ≡ true)

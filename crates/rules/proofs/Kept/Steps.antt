@@ -18,7 +18,7 @@ use Rattle.rules.specs.Answers.{done, freed, request, noneDue}
 use Rattle.rules.specs.Calls.{State, promoteCall, removeCall, timerCall, restartCall, holdsActive, remove, asked, timer, restart}
 use Rattle.rules.specs.Promises.{Sound}
 use Rattle.rules.proofs.Splits.{split, option?, and-true, true-not-false}
-use Rattle.rules.proofs.Kept.Choice.{best-passes}
+use Rattle.rules.proofs.Best.{best-holds}
 use Rattle.rules.proofs.Kept.Table.{isOccupied}
 use Rattle.rules.proofs.Kept.Steady.{steady-refl}
 use Rattle.rules.proofs.Kept.Seats.{inUse, keptBy}
@@ -104,7 +104,7 @@ module _ (s : State) (now : ℕ) (span : Option ℕ) (z : Sound s) where
   picked-use : (k : ℕ) → pick ≡ some k → inUse h k ≡ true
   unfolding chosen mayAsk
   picked-use k e =
-      let c = best-passes (mayAsk (b .sequences) (h .tips) (h .requested) (h .connected) now (spanOr span)) (asksBefore (b .hashes) (b .sequences) (h .tips) (h .requested)) (slotsOf (h .tips)) k e in
+      let c = best-holds (mayAsk (b .sequences) (h .tips) (h .requested) (h .connected) now (spanOr span)) (asksBefore (b .hashes) (b .sequences) (h .tips) (h .requested)) (slotsOf (h .tips)) k e in
       let d = and-true (stored (h .tips) (h .connected) k && leb (due (requestedAt (h .requested) k) (spanOr span)) now) (occupied (b .sequences) (tipAt (h .tips) k)) (c .1) in
       stored-use h k (and-true (stored (h .tips) (h .connected) k) (leb (due (requestedAt (h .requested) k) (spanOr span)) now) (d .0) .0)
 

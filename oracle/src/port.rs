@@ -45,7 +45,7 @@ entries! {
     probe_select_eviction_victim([u8], [u32], [u32], u32) -> u32;
     probe_evict_one([all], u32);
     probe_rebuild_from_blocks([all], u64, u32);
-    probe_insert_head([all], u32, u64, u32, [u8], u32);
+    probe_insert_head([all], u32, u32, [u8], u64, u32);
     probe_resolve_pending_tails([all], u32, [u8]);
     probe_on_block_admitted([all], u32, u32, [u8], u64, u32);
     probe_refresh_tails([all]);
@@ -293,7 +293,7 @@ pub fn evict_one(t: &mut Tables) {
 /// The tip is the arriving block, as in the original.
 pub fn insert_head(t: &mut Tables, slot: u32, now: u64, previous: Hash) {
     let active = t.active;
-    call!(probe_insert_head([all t], slot, now, slot, [previous], active))
+    call!(probe_insert_head([all t], slot, slot, [previous], now, active))
 }
 
 pub fn resolve_pending_tails(t: &mut Tables, slot: u32, previous: Hash) {

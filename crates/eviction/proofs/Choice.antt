@@ -12,9 +12,9 @@ use Rattle.rules.specs.Eviction.{blockBefore, mayGo, victim}
 use Rattle.rules.proofs.Splits.{split, true-not-false}
 use Rattle.rules.proofs.Best.{best-none, best-keeps, best-takes}
 
-module _ (hashes sequences tips : List ℕ) (active : ℕ) where
+module _ (hashes sequences tips : List ℕ) (activeHead : ℕ) where
   abbrev may : ℕ → Bool
-  may = mayGo sequences tips active
+  may = mayGo sequences tips activeHead
 
   abbrev before : ℕ → ℕ → Bool
   before i j = blockBefore hashes sequences (tipAt tips i) (tipAt tips j)
@@ -26,7 +26,7 @@ module _ (hashes sequences tips : List ℕ) (active : ℕ) where
   unfolding choice
   choice-none = best-none may before
 
-  pub choice-victim : (k : ℕ) → k ≡ slotsOf tips → choice k ≡ victim hashes sequences tips active
+  pub choice-victim : (k : ℕ) → k ≡ slotsOf tips → choice k ≡ victim hashes sequences tips activeHead
   unfolding choice victim
   choice-victim k q = rw q
 
@@ -34,7 +34,7 @@ module _ (hashes sequences tips : List ℕ) (active : ℕ) where
 
   module _ (any : Bool) (b lowest k tip sequence : ℕ) (held : choice k ≡ (if any then some b else none)) (known : any ≡ true → lowest ≡ sequenceAt sequences (tipAt tips b)) (there : tip ≡ tipAt tips k) (read : sequence ≡ sequenceAt sequences tip) where
     abbrev passes : Bool
-    passes = not (eqb tip NONE) && not (eqb tip active) && not (eqb sequence NONE)
+    passes = not (eqb tip NONE) && not (eqb tip activeHead) && not (eqb sequence NONE)
 
     passes-is : passes ≡ may k
     unfolding mayGo used occupied

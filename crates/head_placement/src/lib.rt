@@ -91,9 +91,9 @@ fn fork(
         arrivals,
         connected,
         block,
-        arrival,
         block,
         previous,
+        arrival,
         active,
     );
 }
@@ -197,9 +197,9 @@ pub fn place_head(
             arrivals,
             connected,
             block,
-            arrival,
             block,
             previous,
+            arrival,
             active,
         ),
         Found::At(below) => place_above(

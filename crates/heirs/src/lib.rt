@@ -29,8 +29,8 @@ fn is_listed(deleted: &[u32], slot: BlockSlot) -> bool
 }
 
 // Whether the head is in use and its tip is one of the listed blocks.
-pub fn is_head_freed(deleted: &[u32], tips: &[u32], head: HeadSlot) -> bool
-    ensures { λ r. ⌜ r ≡ headFreed (now (deleted .entry)) (now (tips .entry)) (head .0) ⌝ }
+pub fn is_head_freed(tips: &[u32], deleted: &[u32], head: HeadSlot) -> bool
+    ensures { λ r. ⌜ r ≡ headFreed (now (tips .entry)) (now (deleted .entry)) (head .0) ⌝ }
 {
     if !is_used(tips, head) {
         return false;
@@ -59,13 +59,13 @@ fn takes_over(parents: &[u32], sequences: &[u32], tips: &[u32], reattach: BlockS
     is_childless(parents, sequences, reattach)
 }
 
-fn first_freed(deleted: &[u32], tips: &[u32]) -> FoundHead
-    ensures { λ r. ⌜ headFound r ≡ lowest (headFreed (now (deleted .entry)) (now (tips .entry))) (slotsOf (now (tips .entry))) ⌝ }
+fn first_freed(tips: &[u32], deleted: &[u32]) -> FoundHead
+    ensures { λ r. ⌜ headFound r ≡ lowest (headFreed (now (tips .entry)) (now (deleted .entry))) (slotsOf (now (tips .entry))) ⌝ }
 {
     let m = slots(tips);
     let mut k: u32 = 0;
     while k < m {
-        if is_head_freed(deleted, tips, HeadSlot(k)) {
+        if is_head_freed(tips, deleted, HeadSlot(k)) {
             return FoundHead::At(HeadSlot(k));
         }
         k += 1;
@@ -85,7 +85,7 @@ pub fn heir(
         ≡ heirRule (now (parents .entry)) (now (sequences .entry)) (now (tips .entry)) (now (deleted .entry)) (reattach .0) ⌝ }
 {
     if takes_over(parents, sequences, tips, reattach) {
-        return first_freed(deleted, tips);
+        return first_freed(tips, deleted);
     }
     FoundHead::Nothing
 }

@@ -11,7 +11,7 @@ use Rattle.rules.specs.Admission.{misses, late, isLate, link, linkLate}
 
 module _ (parents sequences tips tails missing connected hash : List ℕ) (block sequence k : ℕ) where
   abbrev isIt : Bool
-  isIt = late parents sequences tips tails missing connected block hash sequence k
+  isIt = late parents sequences tips tails missing connected block sequence hash k
 
   pub not-missing : misses tips missing connected hash k ≡ false → false ≡ isIt
   unfolding late
@@ -37,11 +37,11 @@ module _ (parents sequences tips tails missing connected hash : List ℕ) (block
         one-higher p = rw (m, ← at, ne-eqb i block other, o, eq-eqb (parentAt parents i) NONE p)
 
 -- a late head is linked, any other left alone
-module _ (t : Tables) (block : ℕ) (hash : List ℕ) (sequence k : ℕ) where
-  pub linked : (u : Tables) → isLate t block hash sequence k ≡ true → u ≡ link t block k → u ≡ linkLate block hash sequence k t
+module _ (t : Tables) (block sequence : ℕ) (hash : List ℕ) (k : ℕ) where
+  pub linked : (u : Tables) → isLate t block sequence hash k ≡ true → u ≡ link t block k → u ≡ linkLate block sequence hash k t
   unfolding linkLate
   linked u e l = rw e l
 
-  pub left-alone : isLate t block hash sequence k ≡ false → t ≡ linkLate block hash sequence k t
+  pub left-alone : isLate t block sequence hash k ≡ false → t ≡ linkLate block sequence hash k t
   unfolding linkLate
   left-alone e = rw e

@@ -24,7 +24,7 @@ use rules::Head;
 use rules::HeadSlot;
 use rules::Sequence;
 
-// The first byte alone rules most heads out.
+// Whether the head is stored and misses this hash; the first byte alone rules most heads out.
 pub fn misses(
     tips: &[u32],
     missing: &[u8],
@@ -51,12 +51,12 @@ fn is_late(
     missing: &[u8],
     connected: &[u8],
     block: BlockSlot,
-    hash: [u8; 32],
     sequence: Sequence,
+    hash: [u8; 32],
     head: HeadSlot,
 ) -> bool
     ensures { λ r. ⌜ r ≡ late (now (parents .entry)) (now (sequences .entry)) (now (tips .entry)) (now (tails .entry))
-        (now (missing .entry)) (now (connected .entry)) (block .0) hash (sequence .0) (head .0) ⌝ }
+        (now (missing .entry)) (now (connected .entry)) (block .0) (sequence .0) hash (head .0) ⌝ }
 {
     if !misses(tips, missing, connected, hash, head) {
         return false;
@@ -171,12 +171,12 @@ fn link_late(
     arrivals: &mut [u64],
     connected: &mut [u8],
     block: BlockSlot,
-    hash: [u8; 32],
     sequence: Sequence,
+    hash: [u8; 32],
     head: HeadSlot,
 )
     ensures { λ _. ⌜ after hashes parents sequences counts flags tips tails missing requested arrivals connected
-        ≡ linkLate (block .0) hash (sequence .0) (head .0)
+        ≡ linkLate (block .0) (sequence .0) hash (head .0)
         (before hashes parents sequences counts flags tips tails missing requested arrivals connected) ⌝ }
 {
     if is_late(
@@ -187,8 +187,8 @@ fn link_late(
         missing,
         connected,
         block,
-        hash,
         sequence,
+        hash,
         head,
     ) {
         link(
@@ -228,7 +228,7 @@ pub fn link_tails(
 )
     ensures { λ _. ⌜ after hashes parents sequences counts flags tips tails missing requested arrivals connected
         ≡ linkTails (before hashes parents sequences counts flags tips tails missing requested arrivals connected) (block .0)
-        (hashAt (now (hashes .entry)) (block .0)) (sequence .0) ⌝ }
+        (sequence .0) (hashAt (now (hashes .entry)) (block .0)) ⌝ }
 {
     let hash = hash_at(hashes, block.0);
     let m = slots(tips);
@@ -247,8 +247,8 @@ pub fn link_tails(
             arrivals,
             connected,
             block,
-            hash,
             sequence,
+            hash,
             HeadSlot(k),
         );
         k += 1;

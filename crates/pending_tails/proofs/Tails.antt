@@ -22,7 +22,7 @@ module _ (b : Blocks) (h : Heads) (block : ℕ) (hash previous : List ℕ) (k : 
 module _ (t : Tables) (block : ℕ) (previous : List ℕ) where
   -- links change no hash and no sequence
   pub resolved : (u v : Tables) (sequence : ℕ) → occupied (t .blocks .sequences) block ≡ true → sequence ≡ sequenceAt (t .blocks .sequences) block
-      → u .blocks .hashes ≡ t .blocks .hashes → u ≡ linkTails t block (hashAt (t .blocks .hashes) block) sequence
+      → u .blocks .hashes ≡ t .blocks .hashes → u ≡ linkTails t block sequence (hashAt (t .blocks .hashes) block)
       → v ≡ recomputeMissing u block (hashAt (u .blocks .hashes) block) previous → v ≡ resolveTails t block previous
   unfolding resolveTails
   resolved u v sequence o s h l r = rw (o, ← s, ← l, ← h) r

@@ -1,6 +1,6 @@
 // Admission, and admit's added step. A parent is a slot, or NONE_REF for none.
 ghost use mathlib.Core.Path.{_≡_};
-ghost use Rattle.probe.specs.Numbers.{slotOrNone};
+ghost use Rattle.probe.specs.Numbers.{slotFrom};
 ghost use Rattle.rules.specs.Records.{before, after};
 ghost use Rattle.rules.specs.Admission.{insertHead, resolveTails, admitted, refreshTails};
 use crate::numbers::slot_from;
@@ -21,14 +21,14 @@ pub extern "C" fn probe_insert_head(
     arrivals: &mut [u64],
     connected: &mut [u8],
     tip: u32,
-    arrival: u64,
     arriving: u32,
     previous: &[u8],
+    arrival: u64,
     active: u32,
 )
     ensures { λ _. ⌜ after hashes parents sequences counts flags tips tails missing requested arrivals connected
-        ≡ insertHead (before hashes parents sequences counts flags tips tails missing requested arrivals connected) tip arrival arriving
-        (now (previous .entry)) active ⌝ }
+        ≡ insertHead (before hashes parents sequences counts flags tips tails missing requested arrivals connected) tip arriving
+        (now (previous .entry)) arrival active ⌝ }
 {
     head_insertion::insert_head(
         hashes,
@@ -43,9 +43,9 @@ pub extern "C" fn probe_insert_head(
         arrivals,
         connected,
         BlockSlot(tip),
-        arrival,
         BlockSlot(arriving),
         previous,
+        arrival,
         BlockSlot(active),
     );
 }
@@ -110,7 +110,7 @@ pub extern "C" fn probe_on_block_admitted(
 )
     ensures { λ _. ⌜ after hashes parents sequences counts flags tips tails missing requested arrivals connected
         ≡ admitted (before hashes parents sequences counts flags tips tails missing requested arrivals connected) block
-        (slotOrNone parent) (now (previous .entry)) arrival active ⌝ }
+        (slotFrom parent) (now (previous .entry)) arrival active ⌝ }
 {
     admission::on_block_admitted(
         hashes,

@@ -75,9 +75,9 @@ fn rebuild_at(
             arrivals,
             connected,
             slot,
-            arrival,
             BlockSlot::NONE_REF,
             &zeros,
+            arrival,
             active,
         );
         name_again(parents, sequences, named, full);

@@ -47,7 +47,7 @@ fn drop_head(
         put_word(tips, head.0, reattach.0);
         return;
     }
-    if is_head_freed(deleted, tips, head) {
+    if is_head_freed(tips, deleted, head) {
         put_head(
             tips,
             tails,

@@ -28,8 +28,8 @@ abbrev pub newHead : (tip : BlockSlot) (arrival : Time) → Head
 newHead tip arrival = headOf tip tip zeroHash 0 arrival 0
 
 -- in the lowest empty slot; where there is none the tip gets no head
-unfoldable pub seatHead : (t : Tables) (tip : BlockSlot) (arrival : Time) (arriving : BlockSlot) (previous : Hash) → Tables
-seatHead t tip arrival arriving previous =
+unfoldable pub seatHead : (t : Tables) (tip arriving : BlockSlot) (previous : Hash) (arrival : Time) → Tables
+seatHead t tip arriving previous arrival =
     elim (firstEmpty (t .heads .tips)) [
       | none ↦ t
       | some k ↦ withHeads t (recomputeHead (t .blocks) (putHead (t .heads) k (newHead tip arrival)) k arriving previous)
@@ -39,8 +39,8 @@ seatHead t tip arrival arriving previous =
 unfoldable pub makeRoom : (t : Tables) (activeHead : BlockSlot) → Tables
 makeRoom t activeHead = elim (firstEmpty (t .heads .tips)) [ none ↦ evictOne t activeHead | some k ↦ t ]
 
-unfoldable pub insertHead : (t : Tables) (tip : BlockSlot) (arrival : Time) (arriving : BlockSlot) (previous : Hash) (activeHead : BlockSlot) → Tables
-insertHead t tip arrival arriving previous activeHead = seatHead (makeRoom t activeHead) tip arrival arriving previous
+unfoldable pub insertHead : (t : Tables) (tip arriving : BlockSlot) (previous : Hash) (arrival : Time) (activeHead : BlockSlot) → Tables
+insertHead t tip arriving previous arrival activeHead = seatHead (makeRoom t activeHead) tip arriving previous arrival
 
 -- ---- the new block's head
 
@@ -52,10 +52,10 @@ moveUp t k block previous arrival =
 
 -- a parent that is no head counts one more, and a head is inserted
 unfoldable pub fork : (t : Tables) (block parent : BlockSlot) (previous : Hash) (arrival : Time) (activeHead : BlockSlot) → Tables
-fork t block parent previous arrival activeHead = insertHead (oneMore t parent) block arrival block previous activeHead
+fork t block parent previous arrival activeHead = insertHead (oneMore t parent) block block previous arrival activeHead
 
 unfoldable pub placeHead : (t : Tables) (block : BlockSlot) (parent : Option BlockSlot) (previous : Hash) (arrival : Time) (activeHead : BlockSlot) → Tables
-placeHead t block none previous arrival activeHead = insertHead t block arrival block previous activeHead
+placeHead t block none previous arrival activeHead = insertHead t block block previous arrival activeHead
 placeHead t block (some parent) previous arrival activeHead =
     elim (slotOfHead (t .heads .tips) parent) [ some k ↦ moveUp t k block previous arrival | none ↦ fork t block parent previous arrival activeHead ]
 
@@ -66,16 +66,16 @@ unfoldable pub misses : (tips missing connected : List ℕ) (hash : Hash) (k : H
 misses tips missing connected hash k = stored tips connected k && sameHash (hashAt missing k) hash
 
 -- its tail is not the new block, is one higher in sequence and has no parent
-unfoldable pub late : (parents sequences tips tails missing connected : List ℕ) (block : BlockSlot) (hash : Hash) (sequence : Sequence) (k : HeadSlot) → Bool
-late parents sequences tips tails missing connected block hash sequence k =
+unfoldable pub late : (parents sequences tips tails missing connected : List ℕ) (block : BlockSlot) (sequence : Sequence) (hash : Hash) (k : HeadSlot) → Bool
+late parents sequences tips tails missing connected block sequence hash k =
     let i = tailAt tails k in
     misses tips missing connected hash k && not (eqb i block)
     && occupied sequences i && eqb (parentAt parents i) NONE && eqb (sequenceAt sequences i) (suc sequence)
 
 -- of the tables as they stand
-abbrev pub isLate : (t : Tables) (block : BlockSlot) (hash : Hash) (sequence : Sequence) (k : HeadSlot) → Bool
-isLate t block hash sequence k =
-    late (t .blocks .parents) (t .blocks .sequences) (t .heads .tips) (t .heads .tails) (t .heads .missing) (t .heads .connected) block hash sequence k
+abbrev pub isLate : (t : Tables) (block : BlockSlot) (sequence : Sequence) (hash : Hash) (k : HeadSlot) → Bool
+isLate t block sequence hash k =
+    late (t .blocks .parents) (t .blocks .sequences) (t .heads .tips) (t .heads .tails) (t .heads .missing) (t .heads .connected) block sequence hash k
 
 -- a link clears the new block's own head if it has one, else it adds 1 to its count
 unfoldable pub joined : (t : Tables) (block : BlockSlot) → Tables
@@ -89,16 +89,16 @@ unfoldable pub link : (t : Tables) (block : BlockSlot) (k : HeadSlot) → Tables
 link t block k =
     joined (withBlocks t (withParents (t .blocks) (resolveParent (t .blocks .parents) (tailAt (t .heads .tails) k) block))) block
 
-unfoldable pub linkLate : (block : BlockSlot) (hash : Hash) (sequence : Sequence) (k : HeadSlot) (t : Tables) → Tables
-linkLate block hash sequence k t = if isLate t block hash sequence k then link t block k else t
+unfoldable pub linkLate : (block : BlockSlot) (sequence : Sequence) (hash : Hash) (k : HeadSlot) (t : Tables) → Tables
+linkLate block sequence hash k t = if isLate t block sequence hash k then link t block k else t
 
 -- the heads that missed the hash
 unfoldable pub recomputeMissed : (b : Blocks) (block : BlockSlot) (hash previous : Hash) (k : HeadSlot) (h : Heads) → Heads
 recomputeMissed b block hash previous k h = if misses (h .tips) (h .missing) (h .connected) hash k then recomputeHead b h k block previous else h
 
 -- first all links in head-slot order, then the caches
-unfoldable pub linkTails : (t : Tables) (block : BlockSlot) (hash : Hash) (sequence : Sequence) → Tables
-linkTails t block hash sequence = inOrder (linkLate block hash sequence) (slotsOf (t .heads .tips)) t
+unfoldable pub linkTails : (t : Tables) (block : BlockSlot) (sequence : Sequence) (hash : Hash) → Tables
+linkTails t block sequence hash = inOrder (linkLate block sequence hash) (slotsOf (t .heads .tips)) t
 
 unfoldable pub recomputeMissing : (t : Tables) (block : BlockSlot) (hash previous : Hash) → Tables
 recomputeMissing t block hash previous =
@@ -108,7 +108,7 @@ recomputeMissing t block hash previous =
 unfoldable pub resolveTails : (t : Tables) (block : BlockSlot) (previous : Hash) → Tables
 resolveTails t block previous =
     if occupied (t .blocks .sequences) block
-    then recomputeMissing (linkTails t block (hashAt (t .blocks .hashes) block) (sequenceAt (t .blocks .sequences) block)) block (hashAt (t .blocks .hashes) block) previous
+    then recomputeMissing (linkTails t block (sequenceAt (t .blocks .sequences) block) (hashAt (t .blocks .hashes) block)) block (hashAt (t .blocks .hashes) block) previous
     else t
 
 -- the new block counts 1

@@ -15,7 +15,7 @@ isLeaf t i = occupied (t .blocks .sequences) i && childless (t .blocks .parents)
 
 -- a childless block becomes a head, evicting first when full
 unfoldable pub rebuildAt : (arrival : Time) (activeHead i : BlockSlot) (t : Tables) → Tables
-rebuildAt arrival activeHead i t = if isLeaf t i then insertHead t i arrival NONE zeroHash activeHead else t
+rebuildAt arrival activeHead i t = if isLeaf t i then insertHead t i NONE zeroHash arrival activeHead else t
 
 -- the slots below i are done
 abbrev pub rebuiltBelow : (i : BlockSlot) (t : Tables) (arrival : Time) (activeHead : BlockSlot) → Tables

@@ -19,11 +19,11 @@ use Rattle.rules.proofs.Does.{does, refuses}
 module _ (t : Tables) (now : ℕ) (span : Option ℕ) where
   -- what the timer's contract says
   abbrev Told : TimerAnswer → Tables → Type 0
-  Told r left = ((active : ℕ) → Does (timerSaid r) left (timer (stateOf t active) now span)) × (r .missing ≡ hashAsked (timerSaid r))
+  Told r left = ((activeHead : ℕ) → Does (timerSaid r) left (timer (stateOf t activeHead) now span)) × (r .missing ≡ hashAsked (timerSaid r))
 
   pub misshapen : (r : TimerAnswer) → r ≡ record { timed = timed.Refused Shape; missing = zeroHash } → shaped t ≡ false → Told r t
   unfolding timer
-  misshapen r q e = rw q (λ active. refuses {s = stateOf t active} (rw e), refl)
+  misshapen r q e = rw q (λ activeHead. refuses {s = stateOf t activeHead} (rw e), refl)
 
   -- the head that is chosen with these ticks
   abbrev found : ℕ → Option Ask
@@ -32,14 +32,14 @@ module _ (t : Tables) (now : ℕ) (span : Option ℕ) where
   module _ (e : shaped t ≡ true) (ticks : ℕ) (k : ticks ≡ spanOr span) where
     pub none-due : (r : TimerAnswer) → r ≡ record { timed = timed.NoneDue; missing = zeroHash } → found ticks ≡ none → Told r t
     unfolding timer asked
-    none-due r q f = rw q (λ active. does (stateOf t active) (rw (e, ← k, f)) refl, refl)
+    none-due r q f = rw q (λ activeHead. does (stateOf t activeHead) (rw (e, ← k, f)) refl, refl)
 
     pub asks : (head : HeadSlot) (claims : Sequence) (hash requested : List ℕ) → found ticks ≡ some (record { head = head .0; claims = claims .0 })
         → hash ≡ hashAt (t .heads .missing) (head .0) → requested ≡ markRequested (t .heads .requested) (head .0) now
         → Told (record { timed = timed.Request head claims; missing = hash }) (withHeads t (withRequested (t .heads) requested))
     unfolding timer asked
     asks head claims hash requested f h r = (
-      λ active. does (stateOf (withHeads t (withRequested (t .heads) (markRequested (t .heads .requested) (head .0) now))) active) (rw (e, ← k, f, h)) (rw r),
+      λ activeHead. does (stateOf (withHeads t (withRequested (t .heads) (markRequested (t .heads .requested) (head .0) now))) activeHead) (rw (e, ← k, f, h)) (rw r),
       refl,
     )
 

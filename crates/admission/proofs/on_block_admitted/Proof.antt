@@ -5,7 +5,7 @@ use mathlib.Core.List.{List}
 use mathlib.Core.Option.{Option}
 use Prim.Native.Nat.{ℕ}
 use lib.IntN.{pos}
-use Rattle.rules.specs.Records.{Tables, tablesOf, withCounts}
+use Rattle.rules.specs.Records.{Tables, tablesOf, withBlocks, withCounts}
 use Rattle.rules.specs.BlockTable.{adjust, adjustCounts}
 use Rattle.rules.specs.Admission.{placeHead, resolveTails, admitted}
 use Rattle.admission.proofs.on_block_admitted.Statement.{statement}
@@ -99,12 +99,12 @@ same-length-11 c =
     omega (arith, p .resolve-pending-tails .kept, q .place-head .kept, to-adjust-head-ref-count q .adjust-head-ref-count .kept)
 
 -- the three steps as one, of any tables
-steps : (t u v : Tables) (counts : List ℕ) (block : ℕ) (parent : Option ℕ) (previous : List ℕ) (arrival active : ℕ)
+steps : (t u v : Tables) (counts : List ℕ) (block : ℕ) (parent : Option ℕ) (previous : List ℕ) (arrival activeHead : ℕ)
     → counts ≡ adjustCounts (t .blocks .sequences) (t .blocks .counts) block (pos 1)
-    → u ≡ placeHead (record { blocks = withCounts (t .blocks) counts; heads = t .heads }) block parent previous arrival active
-    → v ≡ resolveTails u block previous → v ≡ admitted t block parent previous arrival active
+    → u ≡ placeHead (withBlocks t (withCounts (t .blocks) counts)) block parent previous arrival activeHead
+    → v ≡ resolveTails u block previous → v ≡ admitted t block parent previous arrival activeHead
 unfolding admitted adjust
-steps t u v counts block parent previous arrival active e f g = g ∙ rw (f, e)
+steps t u v counts block parent previous arrival activeHead e f g = g ∙ rw (f, e)
 
 returns : tie.Need-returns
 returns c =

@@ -76,10 +76,10 @@ same-length-11 c =
     omega (arith, p .seat-head .kept, to-make-room (to-tails p) .make-room .kept)
 
 -- the two steps as one, of any tables
-steps : (t u v : Tables) (tip arrival arriving : ℕ) (previous : List ℕ) (active : ℕ)
-    → u ≡ makeRoom t active → v ≡ seatHead u tip arrival arriving previous → v ≡ insertHead t tip arrival arriving previous active
+steps : (t u v : Tables) (tip arriving : ℕ) (previous : List ℕ) (arrival activeHead : ℕ)
+    → u ≡ makeRoom t activeHead → v ≡ seatHead u tip arriving previous arrival → v ≡ insertHead t tip arriving previous arrival activeHead
 unfolding insertHead
-steps t u v tip arrival arriving previous active e f = f ∙ rw e
+steps t u v tip arriving previous arrival activeHead e f = f ∙ rw e
 
 returns : tie.Need-returns
 returns c =

@@ -4,7 +4,7 @@ use mathlib.Core.Path.{_≡_, _∙_}
 use mathlib.Core.List.{List}
 use Prim.Native.Nat.{ℕ}
 use lib.IntN.{pos}
-use Rattle.rules.specs.Records.{Tables, withCounts}
+use Rattle.rules.specs.Records.{Tables, withBlocks, withCounts}
 use Rattle.rules.specs.BlockTable.{adjust, adjustCounts}
 use Rattle.rules.specs.Admission.{insertHead, fork}
 use Rattle.head_placement.proofs.fork.Statement.{statement}
@@ -75,12 +75,12 @@ same-length-11 c =
     omega (arith, p .insert-head .kept, to-adjust-head-ref-count p .adjust-head-ref-count .kept)
 
 -- the two steps as one, of any tables
-steps : (t v : Tables) (counts : List ℕ) (block parent : ℕ) (previous : List ℕ) (arrival active : ℕ)
+steps : (t v : Tables) (counts : List ℕ) (block parent : ℕ) (previous : List ℕ) (arrival activeHead : ℕ)
     → counts ≡ adjustCounts (t .blocks .sequences) (t .blocks .counts) parent (pos 1)
-    → v ≡ insertHead (record { blocks = withCounts (t .blocks) counts; heads = t .heads }) block arrival block previous active
-    → v ≡ fork t block parent previous arrival active
+    → v ≡ insertHead (withBlocks t (withCounts (t .blocks) counts)) block block previous arrival activeHead
+    → v ≡ fork t block parent previous arrival activeHead
 unfolding fork adjust
-steps t v counts block parent previous arrival active e f = f ∙ rw e
+steps t v counts block parent previous arrival activeHead e f = f ∙ rw e
 
 returns : tie.Need-returns
 returns c =

@@ -10,10 +10,10 @@ use Rattle.heirs.proofs.first_freed.Statement.{statement}
 use Rattle.heirs.proofs.first_freed.Tie as tie
 
 abbrev Inv-loop : tie.InvT-loop
-Inv-loop deleted tips m k₀ k = (k ≤ m) × (lowest (headFreed deleted tips) k ≡ none)
+Inv-loop tips deleted m k₀ k = (k ≤ m) × (lowest (headFreed tips deleted) k ≡ none)
 
 abbrev μ-loop : tie.MeasureT-loop
-μ-loop deleted tips m k₀ k = m - k
+μ-loop tips deleted m k₀ k = m - k
 
 slots-requires : tie.Need-slots-requires Inv-loop μ-loop
 slots-requires c κs = tt

@@ -3,7 +3,7 @@ use native.Mathlib.Omega.{arith}
 use mathlib.Core.Path.{_≡_, _∙_}
 use mathlib.Core.List.{List}
 use Prim.Native.Nat.{ℕ}
-use Rattle.rules.specs.Records.{Tables, tablesOf, tailAt, withParents}
+use Rattle.rules.specs.Records.{Tables, tablesOf, tailAt, withBlocks, withParents}
 use Rattle.rules.specs.BlockTable.{resolveParent}
 use Rattle.rules.specs.Admission.{joined, link}
 use Rattle.late_links.proofs.link.Statement.{statement}
@@ -67,7 +67,7 @@ same-length-8 c =
 -- the two steps as one, of any tables
 steps : (t v : Tables) (parents : List ℕ) (block k tail : ℕ)
     → tail ≡ tailAt (t .heads .tails) k → parents ≡ resolveParent (t .blocks .parents) tail block
-    → v ≡ joined (record { blocks = withParents (t .blocks) parents; heads = t .heads }) block → v ≡ link t block k
+    → v ≡ joined (withBlocks t (withParents (t .blocks) parents)) block → v ≡ link t block k
 unfolding link
 steps t v parents block k tail e f g = g ∙ rw (f, e)
 

@@ -15,7 +15,7 @@ abbrev Inv-loop : tie.InvT-loop
 Inv-loop hashes parents₀ sequences counts₀ flags tips₀ tails₀ missing₀ requested₀ arrivals₀ connected₀ block sequence hash m k₀ parents counts tips tails missing requested arrivals connected k =
     let was = tablesOf hashes parents₀ sequences counts₀ flags tips₀ tails₀ missing₀ requested₀ arrivals₀ connected₀ in
     let t = tablesOf hashes parents sequences counts flags tips tails missing requested arrivals connected in
-    Turned k m (SameLengths t was) (t ≡ inOrder (linkLate (block .0) hash (sequence .0)) k was)
+    Turned k m (SameLengths t was) (t ≡ inOrder (linkLate (block .0) (sequence .0) hash) k was)
 
 abbrev μ-loop : tie.MeasureT-loop
 μ-loop hashes parents₀ sequences counts₀ flags tips₀ tails₀ missing₀ requested₀ arrivals₀ connected₀ block sequence hash m k₀ parents counts tips tails missing requested arrivals connected k = m - k

@@ -116,7 +116,7 @@ returns c q =
     let u = insert-head .ensures in
     let e : (occupied (p .sequences .now) (p .slot .0) && childless (p .parents .now) (p .sequences .now) (p .slot .0)) ≡ true =
     sym (is-end .ensures ∙ named-end (p .parents .now) (p .sequences .now) (p .named .now) (p .slot .0) q) ∙ if1 .taken in
-    (rw e u, named-after tables _ (p .slot .0) (p .arrival) _ _ (p .active .0) (p .named .now) _ _ u (is-full .ensures) q (name-again .ensures))
+    (rw e u, named-after tables _ (p .slot .0) _ _ (p .arrival) (p .active .0) (p .named .now) _ _ u (is-full .ensures) q (name-again .ensures))
 
 same-length-13 : tie.Need-same-length-13
 same-length-13 c = refl

@@ -4,7 +4,7 @@ use borrow.Author.Needs.{needs}
 use mathlib.Core.Path.{_≡_, refl, _∙_}
 use mathlib.Core.List.{List}
 use Prim.Native.Nat.{ℕ}
-use Rattle.rules.specs.Records.{Tables, withCounts}
+use Rattle.rules.specs.Records.{Tables, withBlocks, withCounts}
 use Rattle.rules.specs.Removal.{recountAll}
 use Rattle.rules.specs.Rebuild.{rebuildHeads, rebuilt}
 use Rattle.rebuild.proofs.rebuild_from_blocks.Statement.{statement}
@@ -78,11 +78,11 @@ same-length-11 c =
     omega (arith, p .recompute-head-ref-counts .kept, to-rebuild-heads p .rebuild-heads .kept)
 
 -- the two steps as one, of any tables
-steps : (t u v : Tables) (counts : List ℕ) (arrival active : ℕ)
-    → u ≡ rebuildHeads t arrival active → counts ≡ recountAll (u .blocks .parents) (u .blocks .sequences) (u .blocks .counts)
-    → v ≡ record { blocks = withCounts (u .blocks) counts; heads = u .heads } → v ≡ rebuilt t arrival active
+steps : (t u v : Tables) (counts : List ℕ) (arrival activeHead : ℕ)
+    → u ≡ rebuildHeads t arrival activeHead → counts ≡ recountAll (u .blocks .parents) (u .blocks .sequences) (u .blocks .counts)
+    → v ≡ withBlocks u (withCounts (u .blocks) counts) → v ≡ rebuilt t arrival activeHead
 unfolding rebuilt
-steps t u v counts arrival active e f g = g ∙ rw (f, e)
+steps t u v counts arrival activeHead e f g = g ∙ rw (f, e)
 
 returns : tie.Need-returns
 returns c =

@@ -14,15 +14,15 @@ use Rattle.rebuild.proofs.rebuild_heads.Statement.{statement}
 use Rattle.rebuild.proofs.rebuild_heads.Tie as tie
 
 -- one slot more, of any tables
-turn : (t u : Tables) (arrival active i : ℕ)
-    → u ≡ inOrder (rebuildAt arrival active) i t → rebuildAt arrival active i u ≡ inOrder (rebuildAt arrival active) (i + 1) t
-turn t u arrival active i e = ap (rebuildAt arrival active i) e ∙ sym (in-order-next _ _ _)
+turn : (t u : Tables) (arrival activeHead i : ℕ)
+    → u ≡ inOrder (rebuildAt arrival activeHead) i t → rebuildAt arrival activeHead i u ≡ inOrder (rebuildAt arrival activeHead) (i + 1) t
+turn t u arrival activeHead i e = ap (rebuildAt arrival activeHead i) e ∙ sym (in-order-next _ _ _)
 
 -- all slots
-ends : (t u : Tables) (arrival active i n : ℕ)
-    → n ≡ slotsOf (t .blocks .sequences) → i ≡ n → u ≡ inOrder (rebuildAt arrival active) i t → u ≡ rebuildHeads t arrival active
+ends : (t u : Tables) (arrival activeHead i n : ℕ)
+    → n ≡ slotsOf (t .blocks .sequences) → i ≡ n → u ≡ inOrder (rebuildAt arrival activeHead) i t → u ≡ rebuildHeads t arrival activeHead
 unfolding rebuildHeads
-ends t u arrival active i n e d f = rw (← e, ← d) f
+ends t u arrival activeHead i n e d f = rw (← e, ← d) f
 
 -- the tables as they are to be, and in the bytes the parents
 record Made (t made : Tables) (named : List ℕ) (room : ℕ) : Type 0 where

@@ -61,12 +61,12 @@ module _ (t : Blocks) (h : Heads) (activeHead x q : ℕ) (hash : List ℕ) (pare
     bare : (r : ℕ) → inUse h r ≡ true → tipOf h r ≢ x
     bare r ur e = true-not-false {b = isOccupied t x} (rw e at (g .frame .tips r ur .0)) (f .free)
 
-    seated : (v : Blocks) → New v h activeHead x false (λ i. i ≢ x) → Steady NONE u v → Placed u activeHead x (insertHead (record { blocks = v; heads = h }) x arrival x previous activeHead)
+    seated : (v : Blocks) → New v h activeHead x false (λ i. i ≢ x) → Steady NONE u v → Placed u activeHead x (insertHead (record { blocks = v; heads = h }) x x previous arrival activeHead)
     seated v n y =
-        let d = insert-done v h activeHead x arrival x previous false (λ i. i ≢ x) All (λ _ _ ne. ne) n in
-        record { good = d .good; home = d .home; fresh = d .fresh; steady = steady-trans NONE u v (insertHead (record { blocks = v; heads = h }) x arrival x previous activeHead .blocks) y (d .steady) }
+        let d = insert-done v h activeHead x x previous arrival false (λ i. i ≢ x) All (λ _ _ ne. ne) n in
+        record { good = d .good; home = d .home; fresh = d .fresh; steady = steady-trans NONE u v (insertHead (record { blocks = v; heads = h }) x x previous arrival activeHead .blocks) y (d .steady) }
 
-    place-root : p ≡ NONE → Placed u activeHead x (insertHead (record { blocks = u; heads = h }) x arrival x previous activeHead)
+    place-root : p ≡ NONE → Placed u activeHead x (insertHead (record { blocks = u; heads = h }) x x previous arrival activeHead)
     place-root e = seated _ (record {
       good = root-good t h activeHead x q hash p g f e;
       home = insert-occupied t x q hash p k f;
@@ -135,7 +135,7 @@ pub record Admitted (t : Blocks) (activeHead x q : ℕ) (hash : List ℕ) (w : T
   pub hashed : hashOf (w .blocks) x ≡ hash
 
 resolve-is : (w : Tables) (x : ℕ) (previous : List ℕ) → isOccupied (w .blocks) x ≡ true
-    → resolveTails w x previous ≡ recomputeMissing (linkTails w x (hashOf (w .blocks) x) (seqOf (w .blocks) x)) x (hashOf (w .blocks) x) previous
+    → resolveTails w x previous ≡ recomputeMissing (linkTails w x (seqOf (w .blocks) x) (hashOf (w .blocks) x)) x (hashOf (w .blocks) x) previous
 unfolding resolveTails
 resolve-is w x previous o = rw o
 
@@ -148,7 +148,7 @@ resolve-good u activeHead x w previous d =
     let q = seqOf (w .blocks) x in
     let hash = hashOf (w .blocks) x in
     let n = slotsOf (w .heads .tips) in
-    let v : Tables = inOrder (linkLate x hash q) n w in
+    let v : Tables = inOrder (linkLate x q hash) n w in
     let j = all-keep u activeHead x q hash n w (record {
       frame = d .good .frame;
       loose = λ s us. inl (d .good .anchored s us);

@@ -17,8 +17,8 @@ module _ (l : List ℕ) (moving : Option ℕ) (p : ℕ) where
   -- what becomes of head s of h
   pub data Cell (h u : Heads) (s : ℕ) : Type 0 where
     moved : isAt moving s ≡ true → tipOf u s ≡ p → Cell h u s
-    emptied : isAt moving s ≡ false → headFreed l (h .tips) s ≡ true → headAt u s ≡ emptyHead → Cell h u s
-    left : isAt moving s ≡ false → headFreed l (h .tips) s ≡ false → headAt u s ≡ headAt h s → Cell h u s
+    emptied : isAt moving s ≡ false → headFreed (h .tips) l s ≡ true → headAt u s ≡ emptyHead → Cell h u s
+    left : isAt moving s ≡ false → headFreed (h .tips) l s ≡ false → headAt u s ≡ headAt h s → Cell h u s
 
   pub record Dropped (k : ℕ) (h u : Heads) : Type 0 where
     pub rooms : room u ≡ room h
@@ -26,7 +26,7 @@ module _ (l : List ℕ) (moving : Option ℕ) (p : ℕ) where
     pub cells : Room h → (s : ℕ) → s < k → s < room h → Cell h u s
     pub later : (s : ℕ) → k ≤ s → headAt u s ≡ headAt h s
 
-  freed-same : (h u : Heads) (s : ℕ) → headAt u s ≡ headAt h s → headFreed l (u .tips) s ≡ headFreed l (h .tips) s
+  freed-same : (h u : Heads) (s : ℕ) → headAt u s ≡ headAt h s → headFreed (u .tips) l s ≡ headFreed (h .tips) l s
   unfolding headFreed
   freed-same h u s e = let q = same-head h u s e in rw (q .busy, q .tip)
 
@@ -52,7 +52,7 @@ module _ (l : List ℕ) (moving : Option ℕ) (p : ℕ) where
     unfolding dropHead
     turn = split (isAt moving k)
         (λ a. rw a (next _ p (tip-seat u k p) (λ r n. moved a (tip-seat u k p .here (rw (d .rooms) n)))))
-        (λ a. split (headFreed l (u .tips) k)
+        (λ a. split (headFreed (u .tips) l k)
         (λ f. rw (a, f) (next _ NONE (clear-seat u k)
         (λ r n. emptied a (sym (freed-same h u k (d .later k (omega arith))) ∙ f) (put-head u k _ zero-length (d .roomy r) (rw (d .rooms) n)))))
         (λ f. rw (a, f) (record {

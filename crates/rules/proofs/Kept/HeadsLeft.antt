@@ -60,7 +60,7 @@ module _ (t u : Blocks) (h : Heads) (activeHead r : ℕ) (deleted : List ℕ) (f
   unfolding takesOver childless
   takes o n z = rw (o, n, kids-are u (lf .shape) p, z) refl
 
-  heir-yes : takes-over ≡ true → moving ≡ lowest (headFreed deleted (h .tips)) (slotsOf (h .tips))
+  heir-yes : takes-over ≡ true → moving ≡ lowest (headFreed (h .tips) deleted) (slotsOf (h .tips))
   unfolding heir
   heir-yes e = rw e
 
@@ -68,20 +68,20 @@ module _ (t u : Blocks) (h : Heads) (activeHead r : ℕ) (deleted : List ℕ) (f
   unfolding heir
   heir-no e = rw e
 
-  heir-some : (k : ℕ) → isAt moving k ≡ true → (takes-over ≡ true) × (headFreed deleted (h .tips) k ≡ true)
+  heir-some : (k : ℕ) → isAt moving k ≡ true → (takes-over ≡ true) × (headFreed (h .tips) deleted k ≡ true)
   heir-some k a = split takes-over
-      (λ e. option? (lowest (headFreed deleted (h .tips)) (slotsOf (h .tips)))
+      (λ e. option? (lowest (headFreed (h .tips) deleted) (slotsOf (h .tips)))
       (λ n. true-not-false {b = isAt moving k} a (rw (heir-yes e, n) refl))
       (λ i n.
       let q : i ≡ k = eqb-true i k (rw (heir-yes e, n) at a) in
-      (e, rw (← q) (lowest-holds (headFreed deleted (h .tips)) (slotsOf (h .tips)) i n .1))))
+      (e, rw (← q) (lowest-holds (headFreed (h .tips) deleted) (slotsOf (h .tips)) i n .1))))
       (λ e. true-not-false {b = isAt moving k} a (rw (heir-no e) refl))
 
-  freed-tip : (k : ℕ) → headFreed deleted (h .tips) k ≡ true → (inUse h k ≡ true) × (listed deleted (tipOf h k) ≡ true)
+  freed-tip : (k : ℕ) → headFreed (h .tips) deleted k ≡ true → (inUse h k ≡ true) × (listed deleted (tipOf h k) ≡ true)
   unfolding headFreed
   freed-tip k e = let c = and-true (inUse h k) (listed deleted (tipOf h k)) e in (c .0, c .1)
 
-  kept-tip : (k : ℕ) → headFreed deleted (h .tips) k ≡ false → inUse h k ≡ true → listed deleted (tipOf h k) ≡ false
+  kept-tip : (k : ℕ) → headFreed (h .tips) deleted k ≡ false → inUse h k ≡ true → listed deleted (tipOf h k) ≡ false
   unfolding headFreed
   kept-tip k e uk = rw uk at e
 
@@ -119,7 +119,7 @@ module _ (t u : Blocks) (h : Heads) (activeHead r : ℕ) (deleted : List ℕ) (f
   stands : (k : ℕ) → inUse h k ≡ true → listed deleted (tipOf h k) ≡ false → (inUse h2 k ≡ true) × (tipOf h2 k ≡ tipOf h k)
   stands k uk m = go (cell k (use-lt h k uk))
     where
-      not-freed : headFreed deleted (h .tips) k ≡ true → (inUse h2 k ≡ true) × (tipOf h2 k ≡ tipOf h k)
+      not-freed : headFreed (h .tips) deleted k ≡ true → (inUse h2 k ≡ true) × (tipOf h2 k ≡ tipOf h k)
       not-freed e = true-not-false {b = listed deleted (tipOf h k)} (freed-tip k e .1) m
 
       go : Cell deleted moving p h h2 k → (inUse h2 k ≡ true) × (tipOf h2 k ≡ tipOf h k)
@@ -140,14 +140,14 @@ module _ (t u : Blocks) (h : Heads) (activeHead r : ℕ) (deleted : List ℕ) (f
   -- the heir stands on the root's parent
   heir-there : takes-over ≡ true → (k : ℕ) × (inUse h2 k ≡ true) × (tipOf h2 k ≡ p)
   unfolding headFreed
-  heir-there e = option? (lowest (headFreed deleted (h .tips)) (slotsOf (h .tips)))
+  heir-there e = option? (lowest (headFreed (h .tips) deleted) (slotsOf (h .tips)))
       (λ n.
       let (k, uk, m) = lf .someLost in
-      absurd (lowest-found (headFreed deleted (h .tips)) (slotsOf (h .tips)) k (rw (head-slots h (f .roomy)) (use-lt h k uk))
+      absurd (lowest-found (headFreed (h .tips) deleted) (slotsOf (h .tips)) k (rw (head-slots h (f .roomy)) (use-lt h k uk))
       (and-both (inUse h k) (listed deleted (tipOf h k)) uk m) n))
       (λ k n.
       let a : isAt moving k ≡ true = rw (heir-yes e, n) (eq-eqb k k refl) in
-      let b = lowest-holds (headFreed deleted (h .tips)) (slotsOf (h .tips)) k n in
+      let b = lowest-holds (headFreed (h .tips) deleted) (slotsOf (h .tips)) k n in
       go k a (cell k (rw (head-slots h (f .roomy)) at (b .0))))
     where
       go : (k : ℕ) → isAt moving k ≡ true → Cell deleted moving p h h2 k → (k : ℕ) × (inUse h2 k ≡ true) × (tipOf h2 k ≡ p)

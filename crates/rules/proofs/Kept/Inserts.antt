@@ -26,7 +26,7 @@ module _ (s : State) (q : ℕ) (hash previous : List ℕ) (arrival i : ℕ) wher
   settled w = refreshTails (resolveTails w i previous)
 
   abbrev Inserted : Tables → Type 0
-  Inserted after = (w : Tables) × Inserts s call w × (after ≡ settled (insertHead w i arrival i previous (s .activeHead)))
+  Inserted after = (w : Tables) × Inserts s call w × (after ≡ settled (insertHead w i i previous arrival (s .activeHead)))
 
   abbrev MovedUp : Tables → Type 0
   MovedUp after = (k : ℕ) × (after ≡ settled (moveUp (oneMore (inserted s i q hash previous) i) k i previous arrival))
@@ -57,7 +57,7 @@ module _ (s : State) (now : ℕ) where
 
   -- at each it inserts a head into tables of `Inserts`, or changes nothing
   pub restart-inserts : (i : ℕ) → step s (restartCall now) .answer ≡ done
-      → (Inserts s (restartCall now) (half i) × (half (suc i) ≡ insertHead (half i) i now NONE zeroHash (s .activeHead))) ⊎ (half (suc i) ≡ half i)
+      → (Inserts s (restartCall now) (half i) × (half (suc i) ≡ insertHead (half i) i NONE zeroHash now (s .activeHead))) ⊎ (half (suc i) ≡ half i)
   unfolding inOrder rebuildAt
   restart-inserts i e = split (isLeaf (half i) i)
       (λ l. inl (again now i e l, rw l refl))

@@ -100,7 +100,7 @@ module _ (t : Blocks) (h : Heads) (x k : ℕ) where
     link-keeps = option? (slotOfHead (h .tips) x) by-fork by-merge
 
 late-waits : (t : Blocks) (h : Heads) (x q : ℕ) (hash : List ℕ) (k : ℕ) → isOccupied t x ≡ true → isActive t x ≡ false → seqOf t x ≡ q
-    → isLate (record { blocks = t; heads = h }) x hash q k ≡ true → Waits t x (tailAt (h .tails) k)
+    → isLate (record { blocks = t; heads = h }) x q hash k ≡ true → Waits t x (tailAt (h .tails) k)
 unfolding late
 late-waits t h x q hash k o a e l =
     let i = tailAt (h .tails) k in
@@ -110,13 +110,13 @@ late-waits t h x q hash k o a e l =
     let c3 = and-true m (isOccupied t i) (c2 .0) in
     record { there = c3 .1; orphan = eqb-true (parentOf t i) NONE (c2 .1); next = ap suc e ∙ sym (eqb-true (seqOf t i) (suc q) (c1 .1)); home = o; fresh = a }
 
-once-keeps : (s : Blocks) (activeHead x q : ℕ) (hash : List ℕ) (k : ℕ) (w : Tables) → Joining s activeHead x q w → Joining s activeHead x q (linkLate x hash q k w)
+once-keeps : (s : Blocks) (activeHead x q : ℕ) (hash : List ℕ) (k : ℕ) (w : Tables) → Joining s activeHead x q w → Joining s activeHead x q (linkLate x q hash k w)
 unfolding linkLate
-once-keeps s activeHead x q hash k w j = split (isLate w x hash q k)
+once-keeps s activeHead x q hash k w j = split (isLate w x q hash k)
     (λ e. rw e (link-keeps (w .blocks) (w .heads) x k s activeHead q j (late-waits (w .blocks) (w .heads) x q hash k (j .home) (j .fresh) (j .known) e)))
     (λ e. rw e j)
 
-pub all-keep : (s : Blocks) (activeHead x q : ℕ) (hash : List ℕ) (n : ℕ) (w : Tables) → Joining s activeHead x q w → Joining s activeHead x q (inOrder (linkLate x hash q) n w)
+pub all-keep : (s : Blocks) (activeHead x q : ℕ) (hash : List ℕ) (n : ℕ) (w : Tables) → Joining s activeHead x q w → Joining s activeHead x q (inOrder (linkLate x q hash) n w)
 unfolding inOrder
 all-keep s activeHead x q hash zero w j = j
-all-keep s activeHead x q hash (suc n) w j = once-keeps s activeHead x q hash n (inOrder (linkLate x hash q) n w) (all-keep s activeHead x q hash n w j)
+all-keep s activeHead x q hash (suc n) w j = once-keeps s activeHead x q hash n (inOrder (linkLate x q hash) n w) (all-keep s activeHead x q hash n w j)

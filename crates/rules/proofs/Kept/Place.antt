@@ -71,7 +71,7 @@ pub record Done (t : Blocks) (h : Heads) (w : Tables) (activeHead x : ℕ) (b : 
   -- the heads are the old ones and x's
   pub from : (P : ℕ → Type 0) → P x → ((r : ℕ) → inUse h r ≡ true → P (tipOf h r)) → (r : ℕ) → inUse (w .heads) r ≡ true → P (tipOf (w .heads) r)
 
-module _ (t : Blocks) (h : Heads) (activeHead x arrival arriving : ℕ) (previous : List ℕ) (b : Bool) (C D : ℕ → Type 0) (cd : (i : ℕ) → D i → i ≢ x → C i) (n : New t h activeHead x b C) where
+module _ (t : Blocks) (h : Heads) (activeHead x arriving : ℕ) (previous : List ℕ) (arrival : ℕ) (b : Bool) (C D : ℕ → Type 0) (cd : (i : ℕ) → D i → i ≢ x → C i) (n : New t h activeHead x b C) where
   abbrev seated : ℕ → Heads
   seated k = recomputeHead t (putHead h k (newHead x arrival)) k arriving previous
 
@@ -96,11 +96,11 @@ module _ (t : Blocks) (h : Heads) (activeHead x arrival arriving : ℕ) (previou
             (λ ne. rw (seat-tip h (seated k) k x s v ne) (old v (sym (seat-use h (seated k) k x s v ne) ∙ uv)));
       }
 
-  seat-some : (k : ℕ) → firstEmpty (h .tips) ≡ some k → seatHead (record { blocks = t; heads = h }) x arrival arriving previous ≡ record { blocks = t; heads = seated k }
+  seat-some : (k : ℕ) → firstEmpty (h .tips) ≡ some k → seatHead (record { blocks = t; heads = h }) x arriving previous arrival ≡ record { blocks = t; heads = seated k }
   unfolding seatHead
   seat-some k e = rw (e, seatHead)
 
-  pub seat-done : (v : ℕ) → v < room h → inUse h v ≡ false → Done t h (seatHead (record { blocks = t; heads = h }) x arrival arriving previous) activeHead x b D
+  pub seat-done : (v : ℕ) → v < room h → inUse h v ≡ false → Done t h (seatHead (record { blocks = t; heads = h }) x arriving previous arrival) activeHead x b D
   seat-done v l free = option? (firstEmpty (h .tips))
       (λ c. true-not-false {b = inUse h v} (empty-none h v (n .good .frame .roomy) c l) free)
       (λ k c. let p = empty-some h k (n .good .frame .roomy) c in rw (seat-some k c) (put-done k (p .0) (p .1)))
@@ -146,10 +146,10 @@ pub full-victim : (t : Blocks) (h : Heads) (activeHead : ℕ) (C : ℕ → Type 
 full-victim t h activeHead C g c = let f = g .frame in
     victim-there t h activeHead (f .roomy) (f .apart) (λ r u. f .tips r u .0) (λ r l. empty-none h r (f .roomy) c l)
 
-pub insert-done : (t : Blocks) (h : Heads) (activeHead x arrival arriving : ℕ) (previous : List ℕ) (b : Bool) (C D : ℕ → Type 0) (cd : (i : ℕ) → D i → i ≢ x → C i)
-    → New t h activeHead x b C → Done t h (insertHead (record { blocks = t; heads = h }) x arrival arriving previous activeHead) activeHead x b D
+pub insert-done : (t : Blocks) (h : Heads) (activeHead x arriving : ℕ) (previous : List ℕ) (arrival : ℕ) (b : Bool) (C D : ℕ → Type 0) (cd : (i : ℕ) → D i → i ≢ x → C i)
+    → New t h activeHead x b C → Done t h (insertHead (record { blocks = t; heads = h }) x arriving previous arrival activeHead) activeHead x b D
 unfolding insertHead
-insert-done t h activeHead x arrival arriving previous b C D cd n =
+insert-done t h activeHead x arriving previous arrival b C D cd n =
     let f = n .good .frame in
     let s = f .counts .shape in
     option? (firstEmpty (h .tips))
@@ -158,10 +158,10 @@ insert-done t h activeHead x arrival arriving previous b C D cd n =
     (λ v e.
     let w = victim-some (t .hashes) (t .sequences) (h .tips) activeHead v e in
     let u : Blocks = evictFrom (size t) t (tipOf h v) in
-    rw (room-made t h activeHead v s c e) (done-after t u h (seatHead (record { blocks = u; heads = clear h v }) x arrival arriving previous) activeHead x v b D
+    rw (room-made t h activeHead v s c e) (done-after t u h (seatHead (record { blocks = u; heads = clear h v }) x arriving previous arrival) activeHead x v b D
     (trace t h activeHead C (n .good) v (w .0) (w .1))
-    (seat-done u (clear h v) activeHead x arrival arriving previous b C D cd (after t h activeHead x arrival arriving previous b C D cd n v (w .0) (w .1))
+    (seat-done u (clear h v) activeHead x arriving previous arrival b C D cd (after t h activeHead x arriving previous arrival b C D cd n v (w .0) (w .1))
     v (rw (clear-seat h v .rooms) (use-lt h v (w .0))) (clear-here h v)))))
     (λ k c.
     let p = empty-some h k (f .roomy) c in
-    rw (room-there t h activeHead k c) (seat-done t h activeHead x arrival arriving previous b C D cd n k (p .0) (p .1)))
+    rw (room-there t h activeHead k c) (seat-done t h activeHead x arriving previous arrival b C D cd n k (p .0) (p .1)))

@@ -59,7 +59,7 @@ module _ (arrival activeHead k : ℕ) (w : Tables) where
   abbrev leaf? : Bool
   leaf? = isOccupied (w .blocks) k && childless (w .blocks .parents) (w .blocks .sequences) k
 
-  turn-yes : leaf? ≡ true → rebuildAt arrival activeHead k w ≡ insertHead w k arrival NONE zeroHash activeHead
+  turn-yes : leaf? ≡ true → rebuildAt arrival activeHead k w ≡ insertHead w k NONE zeroHash arrival activeHead
   unfolding rebuildAt
   turn-yes e = rw e
 
@@ -72,7 +72,7 @@ module _ (arrival activeHead k : ℕ) (w : Tables) where
   once-upto t p = let f = p .good .frame in split leaf?
       (λ e.
       let c = and-true (isOccupied (w .blocks) k) (childless (w .blocks .parents) (w .blocks .sequences) k) e in
-      let d = insert-done (w .blocks) (w .heads) activeHead k arrival NONE zeroHash (isActive (w .blocks) k) (λ i. i < k) (λ i. i < suc k) (λ i l ne. omega arith) (record {
+      let d = insert-done (w .blocks) (w .heads) activeHead k NONE zeroHash arrival (isActive (w .blocks) k) (λ i. i < k) (λ i. i < suc k) (λ i l ne. omega arith) (record {
         good = p .good;
         home = c .0;
         fresh = refl;
@@ -82,7 +82,7 @@ module _ (arrival activeHead k : ℕ) (w : Tables) where
       rw (turn-yes e) (record {
         good = d .good;
         lower = d .from (λ i. i < suc k) (omega arith) (λ r u. omega (arith, p .lower r u));
-        steady = steady-trans NONE t (w .blocks) ((insertHead w k arrival NONE zeroHash activeHead) .blocks) (p .steady) (d .steady);
+        steady = steady-trans NONE t (w .blocks) ((insertHead w k NONE zeroHash arrival activeHead) .blocks) (p .steady) (d .steady);
         sizes = d .sizes ∙ p .sizes;
       }))
       (λ e. rw (turn-no e) (record {

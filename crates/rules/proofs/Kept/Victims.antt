@@ -35,13 +35,13 @@ module _ (t : Tables) (activeHead : ℕ) (full : firstEmpty (t .heads .tips) ≡
   no-room-made = rw (full, makeRoom) (rw (nobody, evictOne))
 
   -- the new tip gets no head
-  pub no-head-inserted : (tip arrival arriving : ℕ) (previous : List ℕ) → insertHead t tip arrival arriving previous activeHead ≡ t
+  pub no-head-inserted : (tip arriving : ℕ) (previous : List ℕ) (arrival : ℕ) → insertHead t tip arriving previous arrival activeHead ≡ t
   unfolding insertHead seatHead
-  no-head-inserted tip arrival arriving previous = rw no-room-made (rw (full, seatHead))
+  no-head-inserted tip arriving previous arrival = rw no-room-made (rw (full, seatHead))
 
   no-leaf-seated : (arrival i : ℕ) → rebuildAt arrival activeHead i t ≡ t
   unfolding rebuildAt
-  no-leaf-seated arrival i = split (isLeaf t i) (λ e. rw e (no-head-inserted i arrival NONE zeroHash)) (λ e. rw e refl)
+  no-leaf-seated arrival i = split (isLeaf t i) (λ e. rw e (no-head-inserted i NONE zeroHash arrival)) (λ e. rw e refl)
 
 module _ (t : Tables) (arrival activeHead k : ℕ) where
   abbrev w : Tables

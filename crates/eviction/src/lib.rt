@@ -7,7 +7,7 @@ ghost use Rattle.rules.specs.Hashes.{hashAt, hashLess};
 ghost use Rattle.rules.specs.Records.{NONE, slotsOf, tipAt, blocksBefore, blocksAfter, before, after};
 ghost use Rattle.rules.specs.Answers.{slotFound, headFound};
 ghost use Rattle.rules.specs.Eviction.{victim, evictFrom, evict as evictRule, evictOne};
-ghost use Rattle.eviction.specs.Visit.{visited, goesOn};
+ghost use Rattle.eviction.specs.Visit.{Visits};
 use block_changes::delete;
 use block_counts::adjust_head_ref_count;
 use blocks::is_on_active_chain;
@@ -111,8 +111,8 @@ fn visit(
     flags: &mut [u8],
     slot: BlockSlot,
 ) -> Found
-    ensures { λ r. ⌜ (slotFound r ≡ goesOn (blocksBefore hashes parents sequences counts flags) (slot .0))
-        × (blocksAfter hashes parents sequences counts flags ≡ visited (blocksBefore hashes parents sequences counts flags) (slot .0)) ⌝ }
+    ensures { λ r. ⌜ Visits (blocksBefore hashes parents sequences counts flags) (slot .0) (slotFound r)
+        (blocksAfter hashes parents sequences counts flags) ⌝ }
 {
     let parent = BlockSlot(word_at(parents, slot.0));
     let kept = is_on_active_chain(flags, slot);

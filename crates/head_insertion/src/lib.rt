@@ -1,7 +1,7 @@
 // A head inserted: in the lowest empty slot, and a full head table evicts first.
 ghost use mathlib.Core.Path.{_≡_};
-ghost use Rattle.rules.specs.Records.{putHead, caches, withCaches, headsBefore, headsAfter, before, after};
-ghost use Rattle.rules.specs.Caches.{recompute};
+ghost use Rattle.rules.specs.Records.{putHead, headsBefore, headsAfter, before, after};
+ghost use Rattle.rules.specs.Caches.{headRecomputed};
 ghost use Rattle.rules.specs.Admission.{newHead, seatHead, makeRoom, insertHead};
 use caches::recompute_caches;
 use eviction::evict_one;
@@ -25,16 +25,14 @@ fn seat_at(
     connected: &mut [u8],
     slot: HeadSlot,
     tip: BlockSlot,
-    arrival: u64,
     arriving: BlockSlot,
     previous: &[u8],
+    arrival: u64,
 )
     ensures { λ _. ⌜ headsAfter tips tails missing requested arrivals connected
-        ≡ withCaches (putHead (headsBefore tips tails missing requested arrivals connected) (slot .0) (newHead (tip .0) arrival))
-        (recompute (now (parents .entry)) (now (sequences .entry)) (now (flags .entry))
-        (putHead (headsBefore tips tails missing requested arrivals connected) (slot .0) (newHead (tip .0) arrival) .tips)
-        (caches (putHead (headsBefore tips tails missing requested arrivals connected) (slot .0) (newHead (tip .0) arrival)))
-        (slot .0) (arriving .0) (now (previous .entry))) ⌝ }
+        ≡ headRecomputed (now (parents .entry)) (now (sequences .entry)) (now (flags .entry))
+        (putHead (headsBefore tips tails missing requested arrivals connected) (slot .0) (newHead (tip .0) arrival)) (slot .0)
+        (arriving .0) (now (previous .entry)) ⌝ }
 {
     let head = Head {
         tip,
@@ -83,13 +81,13 @@ fn seat_head(
     arrivals: &mut [u64],
     connected: &mut [u8],
     tip: BlockSlot,
-    arrival: u64,
     arriving: BlockSlot,
     previous: &[u8],
+    arrival: u64,
 )
     ensures { λ _. ⌜ after hashes parents sequences counts flags tips tails missing requested arrivals connected
-        ≡ seatHead (before hashes parents sequences counts flags tips tails missing requested arrivals connected) (tip .0) arrival
-        (arriving .0) (now (previous .entry)) ⌝ }
+        ≡ seatHead (before hashes parents sequences counts flags tips tails missing requested arrivals connected) (tip .0) (arriving .0)
+        (now (previous .entry)) arrival ⌝ }
 {
     match first_empty(tips) {
         FoundHead::Nothing => {}
@@ -105,9 +103,9 @@ fn seat_head(
             connected,
             slot,
             tip,
-            arrival,
             arriving,
             previous,
+            arrival,
         ),
     }
 }
@@ -164,14 +162,14 @@ pub fn insert_head(
     arrivals: &mut [u64],
     connected: &mut [u8],
     tip: BlockSlot,
-    arrival: u64,
     arriving: BlockSlot,
     previous: &[u8],
+    arrival: u64,
     active: BlockSlot,
 )
     ensures { λ _. ⌜ after hashes parents sequences counts flags tips tails missing requested arrivals connected
-        ≡ insertHead (before hashes parents sequences counts flags tips tails missing requested arrivals connected) (tip .0) arrival
-        (arriving .0) (now (previous .entry)) (active .0) ⌝ }
+        ≡ insertHead (before hashes parents sequences counts flags tips tails missing requested arrivals connected) (tip .0) (arriving .0)
+        (now (previous .entry)) arrival (active .0) ⌝ }
 {
     make_room(
         hashes,
@@ -200,8 +198,8 @@ pub fn insert_head(
         arrivals,
         connected,
         tip,
-        arrival,
         arriving,
         previous,
+        arrival,
     );
 }

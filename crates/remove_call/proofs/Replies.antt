@@ -9,7 +9,7 @@ use lib.Seq.{sets, sets-eq, take-append-seam}
 use Rattle.rules.specs.Common.{if_then_else_}
 use Rattle.rules.specs.Records.{Tables, slotsOf, parentAt, occupied}
 use Rattle.rules.specs.BlockTable.{inSubtree, markSubtree}
-use Rattle.rules.specs.Removal.{freeAll, blocksDeleted, removed}
+use Rattle.rules.specs.Removal.{listRemoved, removed}
 use Rattle.rules.specs.Answers.{Answer, refused, done, freed}
 use Rattle.rules.specs.Calls.{State, keeping, refuse, maxBlocks, shaped, holdsActive, remove, Does}
 use Rattle.rules.proofs.Does.{does, refuses}
@@ -69,7 +69,7 @@ module _ (s : State) (root : ℕ) where
     remove-stops a = refuses {s = s} (rw (remove-begins h .0, remove-begins h .1, holds-active, a))
 
     pub remove-frees : (count : ℕ) (left : Tables) → anyActive (t .blocks .flags) deleted ≡ false → count ≡ length marked
-        → left ≡ blocksDeleted (record { blocks = freeAll deleted (t .blocks); heads = t .heads }) deleted (parentAt (t .blocks .parents) root)
+        → left ≡ listRemoved t deleted (parentAt (t .blocks .parents) root)
         → Does (freed count) left (remove s root)
     unfolding remove removed
     remove-frees count left a c l =

@@ -3,8 +3,8 @@ ghost use mathlib.Core.Path.{_≡_};
 ghost use mathlib.Core.Bool.{not};
 ghost use Prim.Native.Nat.{ℕ, min};
 ghost use Rattle.rules.specs.Common.{if_then_else_};
-ghost use Rattle.rules.specs.Records.{parentAt, occupied, blocksBefore, headsBefore, before, after};
-ghost use Rattle.rules.specs.Removal.{freeAll, blocksDeleted};
+ghost use Rattle.rules.specs.Records.{parentAt, occupied, before, after};
+ghost use Rattle.rules.specs.Removal.{listRemoved};
 ghost use Rattle.rules.specs.Answers.{refused, done, outcomeSaid, removedSaid};
 ghost use Rattle.rules.specs.Calls.{stateOf, maxBlocks, shaped, remove as removeRule, Does};
 use blocks::is_occupied;
@@ -36,10 +36,8 @@ fn remove_listed(
     root: BlockSlot,
 )
     ensures { λ _. ⌜ after hashes parents sequences counts flags tips tails missing requested arrivals connected
-        ≡ blocksDeleted (record {
-          blocks = freeAll (now (deleted .entry)) (blocksBefore hashes parents sequences counts flags);
-          heads = headsBefore tips tails missing requested arrivals connected;
-        }) (now (deleted .entry)) (parentAt (now (parents .entry)) (root .0)) ⌝ }
+        ≡ listRemoved (before hashes parents sequences counts flags tips tails missing requested arrivals connected)
+        (now (deleted .entry)) (parentAt (now (parents .entry)) (root .0)) ⌝ }
 {
     let parent = BlockSlot(word_at(parents, root.0));
     free_all(hashes, parents, sequences, counts, flags, deleted);

@@ -75,9 +75,13 @@ recomputeUsed parents sequences flags tips k c =
 unfoldable pub recomputeAll : (parents sequences flags tips : List ℕ) (c : Caches) → Caches
 recomputeAll parents sequences flags tips c = inOrder (recomputeUsed parents sequences flags tips) (slotsOf tips) c
 
+-- the heads with the caches of the one in slot k worked out again
+abbrev pub headRecomputed : (parents sequences flags : List ℕ) (h : Heads) (k : HeadSlot) (arriving : BlockSlot) (previous : Hash) → Heads
+headRecomputed parents sequences flags h k arriving previous =
+    withCaches h (recompute parents sequences flags (h .tips) (caches h) k arriving previous)
+
 abbrev pub recomputeHead : (b : Blocks) (h : Heads) (k : HeadSlot) (arriving : BlockSlot) (previous : Hash) → Heads
-recomputeHead b h k arriving previous =
-    withCaches h (recompute (b .parents) (b .sequences) (b .flags) (h .tips) (caches h) k arriving previous)
+recomputeHead b h k arriving previous = headRecomputed (b .parents) (b .sequences) (b .flags) h k arriving previous
 
 abbrev pub recomputeHeads : (b : Blocks) (h : Heads) → Heads
 recomputeHeads b h = withCaches h (recomputeAll (b .parents) (b .sequences) (b .flags) (h .tips) (caches h))

@@ -8,7 +8,7 @@ use lib.ListN.{replicate}
 use Rattle.rules.specs.Kinds.{Sequence}
 use Rattle.rules.specs.Hashes.{hashLength}
 use Rattle.rules.specs.Records.{statusOf, statusNumber}
-use Rattle.rules.specs.BlockTable.{adjusted}
+use Rattle.rules.specs.BlockTable.{minusOne, adjusted}
 use Rattle.rules.specs.Timer.{due, claimed, maxTime}
 use Rattle.rules.specs.Answers.{Answer, refused, done, slot, freed, request, noneDue, dueAt, neverDue}
 use Rattle.rules.specs.Calls.{freshState, fresh, admit}
@@ -45,7 +45,7 @@ unfoldable pub marks : List Mark
 marks =
     mark (due 0 5) 0 ∷ mark (due 7 5) 12 ∷ mark (due maxTime 1) maxTime
     ∷ mark (adjusted 255 (pos 1)) 255 ∷ mark (adjusted 200 (pos 127)) 255 ∷ mark (adjusted 1 (pos 127)) 128
-    ∷ mark (adjusted 0 (negsuc 0)) 0 ∷ mark (adjusted 3 (negsuc 127)) 0
+    ∷ mark (adjusted 0 minusOne) 0 ∷ mark (adjusted 3 (negsuc 127)) 0
     ∷ mark (statusOf 6) (statusNumber Stored) ∷ mark (claimed 0) 0
     ∷ mark (freshOf 1024 64) 0 ∷ mark (freshOf 1025 64) 1 ∷ mark (freshOf 1024 65) 1 ∷ mark (freshOf 1024 1) 1
     ∷ mark (admitOf 4294967294) 0 ∷ mark (admitOf 4294967295) 4

@@ -30,8 +30,8 @@ unfoldable pub listed : (deleted : List BlockSlot) (i : BlockSlot) → Bool
 listed [] i = false
 listed (x ∷ xs) i = if eqb x i then true else listed xs i
 
-unfoldable pub headFreed : (deleted : List BlockSlot) (tips : List ℕ) (k : HeadSlot) → Bool
-headFreed deleted tips k = used tips k && listed deleted (tipAt tips k)
+unfoldable pub headFreed : (tips : List ℕ) (deleted : List BlockSlot) (k : HeadSlot) → Bool
+headFreed tips deleted k = used tips k && listed deleted (tipAt tips k)
 
 -- the root's parent takes over a head: it is occupied, now childless and no head
 unfoldable pub takesOver : (parents sequences tips : List ℕ) (parent : BlockSlot) → Bool
@@ -41,13 +41,13 @@ takesOver parents sequences tips parent =
 -- the lowest head whose tip was freed is the one that moves
 unfoldable pub heir : (parents sequences tips : List ℕ) (deleted : List BlockSlot) (parent : BlockSlot) → Option HeadSlot
 heir parents sequences tips deleted parent =
-    if takesOver parents sequences tips parent then lowest (headFreed deleted tips) (slotsOf tips) else none
+    if takesOver parents sequences tips parent then lowest (headFreed tips deleted) (slotsOf tips) else none
 
 -- the rest are emptied
 unfoldable pub dropHead : (deleted : List BlockSlot) (moving : Option HeadSlot) (parent : BlockSlot) (k : HeadSlot) (h : Heads) → Heads
 dropHead deleted moving parent k h =
     if isAt moving k then withTips h (set (h .tips) k parent)
-    else if headFreed deleted (h .tips) k then clear h k
+    else if headFreed (h .tips) deleted k then clear h k
     else h
 
 unfoldable pub dropHeads : (deleted : List BlockSlot) (moving : Option HeadSlot) (parent : BlockSlot) (h : Heads) → Heads
@@ -65,7 +65,8 @@ unfoldable pub freeAll : (deleted : List BlockSlot) (b : Blocks) → Blocks
 freeAll [] b = b
 freeAll (i ∷ is) b = freeAll is (delete b i)
 
+abbrev pub listRemoved : (t : Tables) (deleted : List BlockSlot) (parent : BlockSlot) → Tables
+listRemoved t deleted parent = blocksDeleted (withBlocks t (freeAll deleted (t .blocks))) deleted parent
+
 unfoldable pub removed : (t : Tables) (root : BlockSlot) → Tables
-removed t root =
-    let deleted = markSubtree (t .blocks .parents) (t .blocks .sequences) root in
-    blocksDeleted (withBlocks t (freeAll deleted (t .blocks))) deleted (parentAt (t .blocks .parents) root)
+removed t root = listRemoved t (markSubtree (t .blocks .parents) (t .blocks .sequences) root) (parentAt (t .blocks .parents) root)

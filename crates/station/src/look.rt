@@ -4,7 +4,7 @@ ghost use lib.ListN.{length};
 ghost use mathlib.Core.List.{[], _∷_};
 ghost use lib.Seq.{sets};
 ghost use Rattle.query_numbers.specs.Numbers.{orNone, yes};
-ghost use Rattle.station.specs.Blocks.{isThere, hashGot, wordsGot};
+ghost use Rattle.station.specs.Blocks.{Gets};
 ghost use Rattle.rules.specs.Hashes.{hashAt};
 ghost use Rattle.rules.specs.Records.{blocksBefore};
 ghost use Rattle.rules.specs.BlockTable.{find, nextFree, findParent, get, headRefCount, statusAt, markSubtree, walksToActiveChain};
@@ -77,9 +77,8 @@ pub extern "C" fn station_get(
     hash: &mut [u8],
     words: &mut [u32],
 ) -> u32
-    ensures { λ r. ⌜ (r ≡ isThere (get (blocksBefore hashes parents sequences counts flags) slot))
-        × ((now (hash .exit) ≡ hashGot (get (blocksBefore hashes parents sequences counts flags) slot) (now (hash .entry)))
-        × (now (words .exit) ≡ wordsGot (get (blocksBefore hashes parents sequences counts flags) slot) (now (words .entry)))) ⌝ }
+    ensures { λ r. ⌜ Gets (get (blocksBefore hashes parents sequences counts flags) slot) (now (hash .entry)) (now (words .entry)) r
+        (now (hash .exit)) (now (words .exit)) ⌝ }
 {
     let got = block_reading::get(hashes, parents, sequences, counts, flags, BlockSlot(slot));
     if got.there {

@@ -16,7 +16,7 @@ use Rattle.trial_lines.specs.declared.Line.{Line}
 use Rattle.trial_lines.specs.declared.Line.the-variants.{Fresh, Admit, Promote, Remove, Timer, Restart, Unread}
 use Rattle.trial_calls.specs.Calling.{renews}
 use Rattle.trial_fronts.specs.Fronts.{front, behind, before}
-use Rattle.trial_session.specs.Session.{lineDone, Session, Fed, closing}
+use Rattle.trial_session.specs.Session.{lineDone, Session, Fed, lineFed, fedByte, fed, lastEnded, closing}
 use Rattle.trial_session.specs.declared.Trial.{Trial}
 
 -- ---- what is held
@@ -62,8 +62,8 @@ asked z (Restart now) = z
 asked z Unread = z
 
 -- a trial of these sizes with a new line before it
-unfoldable pub sizesAfter : (trial : Trial) (active : BlockSlot) → Trial
-sizesAfter z active = record { n = z .n; m = z .m; active = record { 0 = active }; begun = 0 }
+unfoldable pub sizesAfter : (trial : Trial) (activeHead : BlockSlot) → Trial
+sizesAfter z activeHead = record { n = z .n; m = z .m; active = record { 0 = activeHead }; begun = 0 }
 
 unfoldable pub trialAfter : (trial : Trial) (line : Line) (done : Stepped) → Trial
 trialAfter z line d = sizesAfter (if renews line (d .answer) then asked z line else z) (d .after .activeHead)
@@ -115,6 +115,22 @@ pub record Fills (k : Held) (f : Fed) (out : List ℕ) (g : Held) (written : Lis
   pub session : sessionIn g ≡ f .session
   pub text : written ≡ f .said ++ drop (length (f .said)) out
   pub end : next ≡ length (f .said)
+
+-- what a line, a byte, bytes and the end of the input do to what is held
+abbrev pub DoesLine : (h : Held) (line : Line) (out : List ℕ) (at : ℕ) (g : Held) (written : List ℕ) (next : ℕ) → Type 0
+DoesLine h line out at g written next = Comes (heldLine h line) (lineFed (stateIn h) line) out at g written next
+
+abbrev pub TakesByte : (h : Held) (byte : ℕ) (out : List ℕ) (at : ℕ) (g : Held) (written : List ℕ) (next : ℕ) → Type 0
+TakesByte h byte out at g written next = Comes (heldByte h byte) (fedByte (sessionIn h) byte) out at g written next
+
+abbrev pub TakesBytes : (h : Held) (bytes out : List ℕ) (g : Held) (written : List ℕ) (next : ℕ) → Type 0
+TakesBytes h bytes out g written next = Comes (heldFed h bytes) (fed (sessionIn h) bytes) out 0 g written next
+
+abbrev pub EndsLast : (h : Held) (out : List ℕ) (g : Held) (written : List ℕ) (next : ℕ) → Type 0
+EndsLast h out g written next = Comes (heldClosed h) (lastEnded (sessionIn h)) out 0 g written next
+
+abbrev pub Feeds : (h : Held) (bytes out : List ℕ) (g : Held) (written : List ℕ) (next : ℕ) → Type 0
+Feeds h bytes out g written next = Fills (heldFed h bytes) (fed (sessionIn h) bytes) out g written next
 
 -- the end of a trial, in a buffer that has room for all of it
 pub record Closes (h : Held) (out : List ℕ) (arrays : Tables) (written : List ℕ) (next : ℕ) : Type 0 where

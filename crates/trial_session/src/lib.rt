@@ -6,8 +6,7 @@ ghost use mathlib.Core.Path.{_≡_};
 ghost use lib.ListN.{take};
 ghost use Rattle.rules.specs.Records.{before, after};
 ghost use Rattle.trial_lines.specs.Begun.{chunkMost};
-ghost use Rattle.trial_session.specs.Session.{fed};
-ghost use Rattle.trial_session.specs.Held.{heldOf, newTrial, sessionIn, heldFed, Fills, Closes};
+ghost use Rattle.trial_session.specs.Held.{heldOf, newTrial, Feeds, Closes};
 use lines::end_last;
 use lines::take_bytes;
 use rules::BlockSlot;
@@ -64,14 +63,9 @@ pub fn feed(
     chunk: &[u8],
     out: &mut [u8; ROOM],
 ) -> Printed
-    ensures { λ r. ⌜ Fills
-        (heldFed
+    ensures { λ r. ⌜ Feeds
         (heldOf (before hashes parents sequences counts flags tips tails missing requested arrivals connected) (now (line .entry))
-        trial) (take chunkMost (now (chunk .entry))))
-        (fed
-        (sessionIn
-        (heldOf (before hashes parents sequences counts flags tips tails missing requested arrivals connected)
-        (now (line .entry)) trial)) (take chunkMost (now (chunk .entry)))) (now (out .entry))
+        trial) (take chunkMost (now (chunk .entry))) (now (out .entry))
         (heldOf (after hashes parents sequences counts flags tips tails missing requested arrivals connected) (now (line .exit))
         (r .trial)) (now (out .exit)) (r .at) ⌝ }
 {

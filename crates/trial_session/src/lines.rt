@@ -7,8 +7,7 @@ ghost use lib.ListN.{length, take};
 ghost use Rattle.rules.specs.Common.{if_then_else_};
 ghost use Rattle.rules.specs.Records.{before, after};
 ghost use Rattle.trial_lines.specs.Begun.{soFar, tooLong, lineBegun};
-ghost use Rattle.trial_session.specs.Session.{lineFed, fedByte, fed, lastEnded};
-ghost use Rattle.trial_session.specs.Held.{heldOf, stateIn, sessionIn, asked as askedRule, sizesAfter, heldLine, heldByte, heldFed, heldClosed, Comes};
+ghost use Rattle.trial_session.specs.Held.{heldOf, asked as askedRule, sizesAfter, DoesLine, TakesByte, TakesBytes, EndsLast};
 use crate::Printed;
 use crate::Trial;
 use cells::least;
@@ -90,13 +89,8 @@ fn end_line(
     at: usize,
 ) -> Printed
     ensures { λ r. ⌜ ((bytes : List ℕ)
-        → Comes
-        (heldLine (heldOf (before hashes parents sequences counts flags tips tails missing requested arrivals connected) bytes trial)
-        line)
-        (lineFed
-        (stateIn
-        (heldOf (before hashes parents sequences counts flags tips tails missing requested arrivals connected) bytes trial))
-        line) (now (out .entry)) at
+        → DoesLine (heldOf (before hashes parents sequences counts flags tips tails missing requested arrivals connected) bytes trial) line
+        (now (out .entry)) at
         (heldOf (after hashes parents sequences counts flags tips tails missing requested arrivals connected) bytes (r .trial))
         (now (out .exit)) (r .at)) ⌝ }
 {
@@ -146,14 +140,9 @@ fn take_byte(
     out: &mut [u8],
     at: usize,
 ) -> Printed
-    ensures { λ r. ⌜ Comes
-        (heldByte
+    ensures { λ r. ⌜ TakesByte
         (heldOf (before hashes parents sequences counts flags tips tails missing requested arrivals connected) (now (line .entry))
-        trial) byte)
-        (fedByte
-        (sessionIn
-        (heldOf (before hashes parents sequences counts flags tips tails missing requested arrivals connected)
-        (now (line .entry)) trial)) byte) (now (out .entry)) at
+        trial) byte (now (out .entry)) at
         (heldOf (after hashes parents sequences counts flags tips tails missing requested arrivals connected) (now (line .exit))
         (r .trial)) (now (out .exit)) (r .at) ⌝ }
 {
@@ -207,14 +196,9 @@ pub fn take_bytes(
     most: usize,
     out: &mut [u8],
 ) -> Printed
-    ensures { λ r. ⌜ Comes
-        (heldFed
+    ensures { λ r. ⌜ TakesBytes
         (heldOf (before hashes parents sequences counts flags tips tails missing requested arrivals connected) (now (line .entry))
-        trial) (take most (now (bytes .entry))))
-        (fed
-        (sessionIn
-        (heldOf (before hashes parents sequences counts flags tips tails missing requested arrivals connected)
-        (now (line .entry)) trial)) (take most (now (bytes .entry)))) (now (out .entry)) 0
+        trial) (take most (now (bytes .entry))) (now (out .entry))
         (heldOf (after hashes parents sequences counts flags tips tails missing requested arrivals connected) (now (line .exit))
         (r .trial)) (now (out .exit)) (r .at) ⌝ }
 {
@@ -262,14 +246,9 @@ pub fn end_last(
     trial: Trial,
     out: &mut [u8],
 ) -> Printed
-    ensures { λ r. ⌜ Comes
-        (heldClosed
+    ensures { λ r. ⌜ EndsLast
         (heldOf (before hashes parents sequences counts flags tips tails missing requested arrivals connected) (now (line .entry))
-        trial))
-        (lastEnded
-        (sessionIn
-        (heldOf (before hashes parents sequences counts flags tips tails missing requested arrivals connected)
-        (now (line .entry)) trial))) (now (out .entry)) 0
+        trial) (now (out .entry))
         (heldOf (after hashes parents sequences counts flags tips tails missing requested arrivals connected) (now (line .entry))
         (r .trial)) (now (out .exit)) (r .at) ⌝ }
 {

@@ -3,8 +3,8 @@ use native.Mathlib.Omega.{arith}
 use mathlib.Core.Path.{_≡_, _∙_}
 use mathlib.Core.List.{List}
 use Prim.Native.Nat.{ℕ}
-use Rattle.rules.specs.Records.{Blocks, Tables}
-use Rattle.rules.specs.Removal.{freeAll, blocksDeleted}
+use Rattle.rules.specs.Records.{Blocks, Tables, withBlocks}
+use Rattle.rules.specs.Removal.{freeAll, blocksDeleted, listRemoved}
 use Rattle.remove_call.proofs.remove_listed.Statement.{statement}
 use Rattle.remove_call.proofs.remove_listed.Tie as tie
 
@@ -80,8 +80,8 @@ same-length-11 c =
 
 -- the three steps as one, of any tables
 steps : (t v : Tables) (b : Blocks) (deleted : List ℕ) (parent up : ℕ)
-    → up ≡ parent → b ≡ freeAll deleted (t .blocks) → v ≡ blocksDeleted (record { blocks = b; heads = t .heads }) deleted up
-    → v ≡ blocksDeleted (record { blocks = freeAll deleted (t .blocks); heads = t .heads }) deleted parent
+    → up ≡ parent → b ≡ freeAll deleted (t .blocks) → v ≡ blocksDeleted (withBlocks t b) deleted up
+    → v ≡ listRemoved t deleted parent
 steps t v b deleted parent up e f g = g ∙ rw (f, e)
 
 returns : tie.Need-returns

@@ -30,8 +30,8 @@ timeGot none times = times
 timeGot (some time) times = set times 0 time
 
 -- the slot that a number stands for
-unfoldable pub slotOrNone : (slot : BlockSlot) → Option BlockSlot
-slotOrNone slot = if eqb slot NONE then none else some slot
+unfoldable pub slotFrom : (slot : BlockSlot) → Option BlockSlot
+slotFrom slot = if eqb slot NONE then none else some slot
 
 -- a slot, NONE_REF among them; 2^32 is none
 abbrev pub slotNumber : (slot : Option BlockSlot) → ℕ

@@ -1,6 +1,6 @@
 // The numbers that stand for answers, and the slot that a number stands for.
 ghost use mathlib.Core.Path.{_≡_};
-ghost use Rattle.probe.specs.Numbers.{askNumber, insertionNumber, slotNumber, slotOrNone};
+ghost use Rattle.probe.specs.Numbers.{askNumber, insertionNumber, slotNumber, slotFrom};
 ghost use Rattle.rules.specs.Answers.{slotFound, insertionMade, askChosen};
 use rules::BlockSlot;
 use rules::Found;
@@ -40,7 +40,7 @@ pub fn any_slot(f: Found) -> u64
 
 // The slot that a number stands for; NONE_REF is none.
 pub fn slot_from(slot: u32) -> Found
-    ensures { λ r. ⌜ slotFound r ≡ slotOrNone slot ⌝ }
+    ensures { λ r. ⌜ slotFound r ≡ slotFrom slot ⌝ }
 {
     if slot == BlockSlot::NONE_REF.0 {
         return Found::Nothing;

@@ -2,6 +2,7 @@
 use crate::streams::write_whole;
 use libc::STDOUT_FILENO;
 
+// Prints how the trial is called, what its lines are and what each prints.
 pub fn help() {
     let is_written = write_whole(
         STDOUT_FILENO,

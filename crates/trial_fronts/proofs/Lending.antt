@@ -14,7 +14,8 @@ use Rattle.trial_lines.specs.declared.Line.{Line}
 use Rattle.trial_lines.proofs.Places.{Put}
 use Rattle.trial_calls.specs.Calling.{Tells}
 use Rattle.trial_listing.specs.Listing.{listingOf}
-use Rattle.trial_fronts.specs.Fronts.{front, behind}
+use Rattle.trial_fronts.specs.Fronts.{front, behind, Cut, TellsFront}
+use Rattle.trial_fronts.specs.declared.Ends.{Ends}
 
 -- ---- tables field by field
 
@@ -40,6 +41,23 @@ same-tables t u e =
 
 pub front-length : (array : List ℕ) (e : ℕ) → e ≤ length array → e ≡ length (take e array)
 front-length array e h = omega (arith, length-take e array)
+
+-- each end is within its array
+pub record Within (ends : Ends) (t : Tables) : Type 0 where
+  pub hashes : ends .hashes ≤ length (t .blocks .hashes)
+  pub parents : ends .parents ≤ length (t .blocks .parents)
+  pub sequences : ends .sequences ≤ length (t .blocks .sequences)
+  pub counts : ends .counts ≤ length (t .blocks .counts)
+  pub flags : ends .flags ≤ length (t .blocks .flags)
+  pub tips : ends .tips ≤ length (t .heads .tips)
+  pub tails : ends .tails ≤ length (t .heads .tails)
+  pub missing : ends .missing ≤ length (t .heads .missing)
+  pub requested : ends .requested ≤ length (t .heads .requested)
+  pub arrivals : ends .arrivals ≤ length (t .heads .arrivals)
+  pub connected : ends .connected ≤ length (t .heads .connected)
+
+pub within : {n m : ℕ} {ends : Ends} {t : Tables} → Cut n m ends t → Within ends t
+within c = record { hashes = omega (arith, c .hashes); parents = omega (arith, c .parents); sequences = omega (arith, c .sequences); counts = omega (arith, c .counts); flags = omega (arith, c .flags); tips = omega (arith, c .tips); tails = omega (arith, c .tails); missing = omega (arith, c .missing); requested = omega (arith, c .requested); arrivals = omega (arith, c .arrivals); connected = omega (arith, c .connected) }
 
 -- of an array the first k cells are lent and come back; the array is then `whole`
 pub record Came (k : ℕ) (array lent back whole : List ℕ) : Type 0 where
@@ -98,7 +116,7 @@ module _ {n m : ℕ} {t lent back u : Tables} (l : Lent n m t lent back u) where
 
 pub tells-front : {n m : ℕ} {t lent back u : Tables} {a b : ℕ} {line : Line} {out written : List ℕ} {at next : ℕ} {renewed : Bool}
     → Tells (stateOf lent a) line out at (stateOf back b) renewed written next → Lent n m t lent back u
-    → Tells (stateOf (front n m t) a) line out at (stateOf (front n m u) b) renewed written next × (behind n m u ≡ behind n m t)
+    → TellsFront n m t a line out at u b renewed written next
 tells-front tell l = (rw (← lent-is l, back-is l) tell, rest-is l)
 
 -- ---- a front that is only read

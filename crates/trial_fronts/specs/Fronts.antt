@@ -1,10 +1,15 @@
 -- Tables at the front of arrays: their first slots, what stands behind these, and one before the other.
-use mathlib.Core.List.{_++_}
+use mathlib.Core.List.{List, _++_}
 use mathlib.Core.Path.{_≡_}
+use mathlib.Core.Bool.{Bool}
 use Prim.Native.Nat.{ℕ, _*_, min}
 use lib.ListN.{length, take, drop}
+use Rattle.rules.specs.Kinds.{BlockSlot}
 use Rattle.rules.specs.Hashes.{hashLength}
 use Rattle.rules.specs.Records.{Tables, tablesOf}
+use Rattle.rules.specs.Calls.{stateOf}
+use Rattle.trial_lines.specs.declared.Line.{Line}
+use Rattle.trial_calls.specs.Calling.{Tells}
 use Rattle.trial_fronts.specs.declared.Ends.{Ends}
 
 unfoldable pub front : (n m : ℕ) (t : Tables) → Tables
@@ -43,3 +48,9 @@ pub record Cut (n m : ℕ) (ends : Ends) (t : Tables) : Type 0 where
   pub requested : ends .requested ≡ min m (length (t .heads .requested))
   pub arrivals : ends .arrivals ≡ min m (length (t .heads .arrivals))
   pub connected : ends .connected ≡ min m (length (t .heads .connected))
+
+-- what a line's call is told of the front of arrays t, which becomes the front of u, and what stands behind is left
+abbrev pub TellsFront : (n m : ℕ) (t : Tables) (activeHead : BlockSlot) (line : Line) (out : List ℕ) (at : ℕ)
+    (u : Tables) (active : BlockSlot) (renewed : Bool) (written : List ℕ) (next : ℕ) → Type 0
+TellsFront n m t activeHead line out at u active renewed written next =
+    Tells (stateOf (front n m t) activeHead) line out at (stateOf (front n m u) active) renewed written next × (behind n m u ≡ behind n m t)

@@ -3,11 +3,9 @@ ghost use mathlib.Core.Path.{_≡_};
 ghost use lib.ListN.{length, take};
 ghost use lib.Seq.{sets};
 ghost use Rattle.rules.specs.Records.{before, after};
-ghost use Rattle.rules.specs.Calls.{stateOf};
 ghost use Rattle.trial_lines.specs.Writing.{place};
 ghost use Rattle.trial_listing.specs.Listing.{listingOf};
-ghost use Rattle.trial_calls.specs.Calling.{Tells};
-ghost use Rattle.trial_fronts.specs.Fronts.{front, behind, Cut};
+ghost use Rattle.trial_fronts.specs.Fronts.{Cut, TellsFront};
 use cells::least;
 use rules::BlockSlot;
 use trial_answer::answer;
@@ -85,13 +83,10 @@ pub fn answer_front(
     out: &mut [u8],
     at: usize,
 ) -> Told
-    ensures { λ r. ⌜ Tells
-        (stateOf (front n m (before hashes parents sequences counts flags tips tails missing requested arrivals connected))
-        (active .0)) line (now (out .entry)) at
-        (stateOf (front n m (after hashes parents sequences counts flags tips tails missing requested arrivals connected))
-        (r .active .0)) (r .renewed) (now (out .exit)) (r .at)
-        × (behind n m (after hashes parents sequences counts flags tips tails missing requested arrivals connected)
-        ≡ behind n m (before hashes parents sequences counts flags tips tails missing requested arrivals connected)) ⌝ }
+    ensures { λ r. ⌜ TellsFront n m (before hashes parents sequences counts flags tips tails missing requested arrivals connected)
+        (active .0) line (now (out .entry)) at
+        (after hashes parents sequences counts flags tips tails missing requested arrivals connected) (r .active .0) (r .renewed)
+        (now (out .exit)) (r .at) ⌝ }
 {
     let end = cut(
         hashes,

@@ -29,8 +29,8 @@ use Rattle.trial_session.proofs.Laid.{laid-same, laid-is}
 fresh-accepted : (k j : ℕ) → shaped (freshState k j .tables) ≡ true → fresh (freshState k j) ≡ answering (freshState k j) done
 unfolding fresh
 fresh-accepted k j e =
-    let a = sized-fresh k j .parents in
-    let b = sized-fresh k j .tips in
+    let a = sized-fresh k j .blocks .parents in
+    let b = sized-fresh k j .heads .tips in
     rw (e, a, b)
 
 front-accepted : (k j : ℕ) (t : Tables) (a : ℕ) → Sized arrayBlocks arrayHeads t → shaped (freshState k j .tables) ≡ true
@@ -40,8 +40,8 @@ front-accepted k j t a z e =
     let q : shaped (front k j t) ≡ true = front-shape k j t z ∙ e in
     let w = shaped-within k j e in
     let f = sized-front k j arrayBlocks arrayHeads t z in
-    let n : blocksIn (front k j t) ≡ k = f .parents ∙ omega arith in
-    let m : headsIn (front k j t) ≡ j = f .tips ∙ omega arith in
+    let n : blocksIn (front k j t) ≡ k = f .blocks .parents ∙ omega arith in
+    let m : headsIn (front k j t) ≡ j = f .heads .tips ∙ omega arith in
     rw (q, n, m)
 
 -- a refused N

@@ -8,24 +8,30 @@ use borrow.Author.Tests.{eq-eqb, le-leb, leb-true, leb-false}
 use lib.Dec.{leb}
 use lib.ListN.{length, take, length-take, length-replicate}
 use Rattle.rules.specs.Hashes.{hashLength}
-use Rattle.rules.specs.Records.{Tables, emptyBlocks, emptyHeads, blocksFit, headsFit}
+use Rattle.rules.specs.Records.{Blocks, Heads, Tables, emptyBlocks, emptyHeads, blocksFit, headsFit}
 use Rattle.rules.specs.Calls.{maxBlocks, minHeads, maxHeads, shaped, freshState}
 use Rattle.rules.proofs.Splits.{split, and-true}
 use Rattle.trial_fronts.specs.Fronts.{front}
 use Rattle.trial_session.specs.Held.{arrayBlocks, arrayHeads}
 
+pub record SizedBlocks (n : ℕ) (b : Blocks) : Type 0 where
+  pub hashes : length (b .hashes) ≡ n * hashLength
+  pub parents : length (b .parents) ≡ n
+  pub sequences : length (b .sequences) ≡ n
+  pub counts : length (b .counts) ≡ n
+  pub flags : length (b .flags) ≡ n
+
+pub record SizedHeads (m : ℕ) (h : Heads) : Type 0 where
+  pub tips : length (h .tips) ≡ m
+  pub tails : length (h .tails) ≡ m
+  pub missing : length (h .missing) ≡ m * hashLength
+  pub requested : length (h .requested) ≡ m
+  pub arrivals : length (h .arrivals) ≡ m
+  pub connected : length (h .connected) ≡ m
+
 pub record Sized (n m : ℕ) (t : Tables) : Type 0 where
-  pub hashes : length (t .blocks .hashes) ≡ n * hashLength
-  pub parents : length (t .blocks .parents) ≡ n
-  pub sequences : length (t .blocks .sequences) ≡ n
-  pub counts : length (t .blocks .counts) ≡ n
-  pub flags : length (t .blocks .flags) ≡ n
-  pub tips : length (t .heads .tips) ≡ m
-  pub tails : length (t .heads .tails) ≡ m
-  pub missing : length (t .heads .missing) ≡ m * hashLength
-  pub requested : length (t .heads .requested) ≡ m
-  pub arrivals : length (t .heads .arrivals) ≡ m
-  pub connected : length (t .heads .connected) ≡ m
+  pub blocks : SizedBlocks n (t .blocks)
+  pub heads : SizedHeads m (t .heads)
 
 -- their shape goes by n and m alone
 within : ℕ → ℕ → Bool
@@ -35,17 +41,17 @@ sized-shape : (n m : ℕ) (t : Tables) → Sized n m t → shaped t ≡ within n
 unfolding shaped blocksFit headsFit within
 sized-shape n m t z =
     rw (
-      z .hashes,
-      z .parents,
-      z .sequences,
-      z .counts,
-      z .flags,
-      z .tips,
-      z .tails,
-      z .missing,
-      z .requested,
-      z .arrivals,
-      z .connected,
+      z .blocks .hashes,
+      z .blocks .parents,
+      z .blocks .sequences,
+      z .blocks .counts,
+      z .blocks .flags,
+      z .heads .tips,
+      z .heads .tails,
+      z .heads .missing,
+      z .heads .requested,
+      z .heads .arrivals,
+      z .heads .connected,
       eq-eqb (n * hashLength) (n * hashLength) refl,
       eq-eqb n n refl,
       eq-eqb (m * hashLength) (m * hashLength) refl,
@@ -60,17 +66,21 @@ taken k n xs e = omega (arith, length-take k xs)
 pub sized-front : (k j n m : ℕ) (t : Tables) → Sized n m t → Sized (min k n) (min j m) (front k j t)
 unfolding front
 sized-front k j n m t z = record {
-  hashes = let e = length-take (k * hashLength) (t .blocks .hashes) in let h = z .hashes in omega arith;
-  parents = taken k n (t .blocks .parents) (z .parents);
-  sequences = taken k n (t .blocks .sequences) (z .sequences);
-  counts = taken k n (t .blocks .counts) (z .counts);
-  flags = taken k n (t .blocks .flags) (z .flags);
-  tips = taken j m (t .heads .tips) (z .tips);
-  tails = taken j m (t .heads .tails) (z .tails);
-  missing = let e = length-take (j * hashLength) (t .heads .missing) in let h = z .missing in omega arith;
-  requested = taken j m (t .heads .requested) (z .requested);
-  arrivals = taken j m (t .heads .arrivals) (z .arrivals);
-  connected = taken j m (t .heads .connected) (z .connected);
+  blocks = record {
+    hashes = let e = length-take (k * hashLength) (t .blocks .hashes) in let h = z .blocks .hashes in omega arith;
+    parents = taken k n (t .blocks .parents) (z .blocks .parents);
+    sequences = taken k n (t .blocks .sequences) (z .blocks .sequences);
+    counts = taken k n (t .blocks .counts) (z .blocks .counts);
+    flags = taken k n (t .blocks .flags) (z .blocks .flags);
+  };
+  heads = record {
+    tips = taken j m (t .heads .tips) (z .heads .tips);
+    tails = taken j m (t .heads .tails) (z .heads .tails);
+    missing = let e = length-take (j * hashLength) (t .heads .missing) in let h = z .heads .missing in omega arith;
+    requested = taken j m (t .heads .requested) (z .heads .requested);
+    arrivals = taken j m (t .heads .arrivals) (z .heads .arrivals);
+    connected = taken j m (t .heads .connected) (z .heads .connected);
+  };
 }
 
 -- ---- fresh tables
@@ -78,17 +88,21 @@ sized-front k j n m t z = record {
 pub sized-fresh : (n m : ℕ) → Sized n m (freshState n m .tables)
 unfolding freshState emptyBlocks emptyHeads
 sized-fresh n m = record {
-  hashes = length-replicate _ _;
-  parents = length-replicate _ _;
-  sequences = length-replicate _ _;
-  counts = length-replicate _ _;
-  flags = length-replicate _ _;
-  tips = length-replicate _ _;
-  tails = length-replicate _ _;
-  missing = length-replicate _ _;
-  requested = length-replicate _ _;
-  arrivals = length-replicate _ _;
-  connected = length-replicate _ _;
+  blocks = record {
+    hashes = length-replicate _ _;
+    parents = length-replicate _ _;
+    sequences = length-replicate _ _;
+    counts = length-replicate _ _;
+    flags = length-replicate _ _;
+  };
+  heads = record {
+    tips = length-replicate _ _;
+    tails = length-replicate _ _;
+    missing = length-replicate _ _;
+    requested = length-replicate _ _;
+    arrivals = length-replicate _ _;
+    connected = length-replicate _ _;
+  };
 }
 
 leb-alike : (a b c d : ℕ) → (a ≤ b → c ≤ d) → (c ≤ d → a ≤ b) → leb a b ≡ leb c d

@@ -45,7 +45,7 @@ take-byte-requires : tie.Need-take-byte-requires Inv-loop μ-loop
 take-byte-requires c κs = tt
 
 add-i : tie.Need-add-i Inv-loop μ-loop
-add-i c = search needs
+add-i c = let l = the (tie.In-loop Inv-loop μ-loop) (search) in omega (arith, l .loop-test .taken, l .before .before .least .ok)
 
 loop-less : tie.Need-loop-less Inv-loop μ-loop
 loop-less c = search needs

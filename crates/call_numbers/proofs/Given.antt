@@ -4,7 +4,7 @@ use Prim.Native.Nat.{ℕ}
 use Rattle.rules.specs.Records.{Tables, Lent}
 use Rattle.rules.specs.Answers.{Answer}
 use Rattle.rules.specs.Calls.{Stepped, Does, Sets}
-use Rattle.call_numbers.specs.Numbers.{answerNumber, claimedTo, wantedTo, timeTo, Gives, GivesAndSets, Asks, Waits}
+use Rattle.call_numbers.specs.Numbers.{answerNumber, claimedTo, wantedTo, timeTo, highestTo, Gives, GivesAndSets, Asks, Waits, Hangs}
 
 module _ {number : ℕ} {said : Answer} {left : Tables} {rule : Stepped} (n : number ≡ answerNumber said) where
   pub gives : Does said left rule → Gives number left rule
@@ -26,5 +26,12 @@ module _ {number : ℕ} {said : Answer} {left : Tables} {rule : Stepped} (n : nu
   waits {time} t d = record {
     answers = n ∙ ap answerNumber (d .answers);
     waits = t ∙ ap (λ (a : Answer). timeTo a (time .entry .now)) (d .answers);
+    leaves = d .leaves;
+  }
+
+  pub hangs : {highest : Lent} → highest .exit .now ≡ highestTo said (highest .entry .now) → Does said left rule → Hangs number highest left rule
+  hangs {highest} h d = record {
+    answers = n ∙ ap answerNumber (d .answers);
+    tops = h ∙ ap (λ (a : Answer). highestTo a (highest .entry .now)) (d .answers);
     leaves = d .leaves;
   }

@@ -10,14 +10,16 @@ use Rattle.rules.specs.Kinds.{BlockSlot, Time}
 use Rattle.rules.specs.Records.{NONE, Tables, Lent}
 use Rattle.rules.specs.Calls.{Stepped}
 use Rattle.rules.specs.Hashes.{putHash}
-use Rattle.rules.specs.Answers.{Answer, refused, done, slot, freed, request, noneDue, dueAt, neverDue}
+use Rattle.rules.specs.Answers.{Answer, refused, done, slot, freed, hangs, request, noneDue, dueAt, neverDue}
 
--- a refusal times 2^32, or the slot, the number of blocks freed, the head asked for (NONE_REF is none due), and 1 where there is a deadline
+-- a refusal times 2^32, or the slot, the number of blocks freed or hanging, the head asked for (NONE_REF is none due), and 1 where there
+-- is a deadline
 abbrev pub answerNumber : (answer : Answer) → ℕ
 answerNumber (refused number) = number * 4294967296
 answerNumber done = 0
 answerNumber (slot i) = i
 answerNumber (freed blocks) = blocks
+answerNumber (hangs blocks highest) = blocks
 answerNumber (request head claims missing) = head
 answerNumber noneDue = NONE
 answerNumber (dueAt time) = 1
@@ -30,6 +32,7 @@ claimedTo (refused number) words = words
 claimedTo done words = words
 claimedTo (slot i) words = words
 claimedTo (freed blocks) words = words
+claimedTo (hangs blocks highest) words = words
 claimedTo noneDue words = words
 claimedTo (dueAt time) words = words
 claimedTo neverDue words = words
@@ -41,6 +44,7 @@ wantedTo (refused number) bytes = bytes
 wantedTo done bytes = bytes
 wantedTo (slot i) bytes = bytes
 wantedTo (freed blocks) bytes = bytes
+wantedTo (hangs blocks highest) bytes = bytes
 wantedTo noneDue bytes = bytes
 wantedTo (dueAt time) bytes = bytes
 wantedTo neverDue bytes = bytes
@@ -52,9 +56,22 @@ timeTo (refused number) times = times
 timeTo done times = times
 timeTo (slot i) times = times
 timeTo (freed blocks) times = times
+timeTo (hangs blocks highest) times = times
 timeTo (request head claims missing) times = times
 timeTo noneDue times = times
 timeTo neverDue times = times
+
+-- the highest sequence of what hangs under a block is written to the first place of a list
+abbrev pub highestTo : (answer : Answer) (words : List ℕ) → List ℕ
+highestTo (hangs blocks highest) words = set words 0 highest
+highestTo (refused number) words = words
+highestTo done words = words
+highestTo (slot i) words = words
+highestTo (freed blocks) words = words
+highestTo (request head claims missing) words = words
+highestTo noneDue words = words
+highestTo (dueAt time) words = words
+highestTo neverDue words = words
 
 -- whether a retry span is given, and the span
 unfoldable pub spanFrom : (given : ℕ) (span : Time) → Option Time
@@ -83,4 +100,10 @@ pub record Asks (number : ℕ) (claimed wanted : Lent) (left : Tables) (rule : S
 pub record Waits (number : ℕ) (time : Lent) (left : Tables) (rule : Stepped) : Type 0 where
   pub answers : number ≡ answerNumber (rule .answer)
   pub waits : time .exit .now ≡ timeTo (rule .answer) (time .entry .now)
+  pub leaves : left ≡ rule .after .tables
+
+-- and the highest sequence of what hangs, in a lent list
+pub record Hangs (number : ℕ) (highest : Lent) (left : Tables) (rule : Stepped) : Type 0 where
+  pub answers : number ≡ answerNumber (rule .answer)
+  pub tops : highest .exit .now ≡ highestTo (rule .answer) (highest .entry .now)
   pub leaves : left ≡ rule .after .tables

@@ -1,14 +1,15 @@
 // The numbers that stand for the answers of the calls.
 ghost use mathlib.Core.Path.{_≡_};
 ghost use Prim.Native.Nat.{_*_};
-ghost use Rattle.rules.specs.Answers.{refusalNumber, outcomeSaid, admittedSaid, removedSaid, timedSaid, deadlineSaid, spanGiven};
-ghost use Rattle.call_numbers.specs.Numbers.{answerNumber, claimedTo, wantedTo, timeTo, spanFrom};
+ghost use Rattle.rules.specs.Answers.{refusalNumber, outcomeSaid, admittedSaid, removedSaid, hangingSaid, timedSaid, deadlineSaid, spanGiven};
+ghost use Rattle.call_numbers.specs.Numbers.{answerNumber, claimedTo, wantedTo, timeTo, highestTo, spanFrom};
 use cells::put_hash;
 use cells::put_time;
 use cells::put_word;
 use query_numbers::refusal_number;
 use rules::Admitted;
 use rules::DeadlineAnswer;
+use rules::Hanging;
 use rules::HeadSlot;
 use rules::Outcome;
 use rules::Refusal;
@@ -49,6 +50,20 @@ pub fn removed_number(removed: Removed) -> u64
     match removed {
         Removed::Freed(blocks) => blocks as u64,
         Removed::Refused(why) => refusal(why),
+    }
+}
+
+// How many blocks hang, with the highest sequence among them written to the first place of the list, or the refusal in the upper half.
+pub fn hanging_number(hanging: Hanging, highest: &mut [u32]) -> u64
+    ensures { λ r. ⌜ (r ≡ answerNumber (hangingSaid hanging))
+        × (now (highest .exit) ≡ highestTo (hangingSaid hanging) (now (highest .entry))) ⌝ }
+{
+    match hanging {
+        Hanging::Blocks(blocks, sequence) => {
+            put_word(highest, 0, sequence.0);
+            blocks as u64
+        }
+        Hanging::Refused(why) => refusal(why),
     }
 }
 

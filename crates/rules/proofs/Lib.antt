@@ -2,6 +2,8 @@ pub mod Places
 pub mod Splits
 pub mod Cells
 pub mod Search
+pub mod Sums
+pub mod Under
 pub mod Each
 pub mod Freed
 pub mod Hashes
@@ -16,4 +18,5 @@ pub mod Loops
 pub mod Does
 pub mod Kept
 pub mod Demand3
+pub mod Weighed
 pub mod Trials

@@ -1,7 +1,7 @@
--- Every refusal is one of the paper's numbers, of fresh, restart, timer and deadline 1 alone, and a refused call leaves the
--- state as it stood.
+-- Every refusal is one of the paper's numbers, of fresh, restart, timer and deadline 1 alone, of under 1 or 3, and a refused call
+-- leaves the state as it stood; under always does.
 use mathlib.Core.Path.{_≡_, refl, ap}
-use mathlib.Core.Logic.{_≢_}
+use mathlib.Core.Logic.{_≢_, _⊎_, inl, inr}
 use mathlib.Core.Bool.{Bool, true, false, not, _&&_}
 use mathlib.Core.List.{List}
 use mathlib.Core.Option.{Option, none, some}
@@ -14,11 +14,12 @@ use Rattle.rules.specs.Common.{if_then_else_}
 use Rattle.rules.specs.Hashes.{hashLength, zeroHash, hashAt, sameHash}
 use Rattle.rules.specs.Records.{NONE, occupied}
 use Rattle.rules.specs.BlockTable.{nextFree, markSubtree}
+use Rattle.rules.specs.Under.{hanging, highest}
 use Rattle.rules.specs.Removal.{removed}
 use Rattle.rules.specs.Rebuild.{restarted}
 use Rattle.rules.specs.Timer.{Ask, spanOr, recovery, deadline}
-use Rattle.rules.specs.Answers.{Answer, refused, done, slot, freed, request, noneDue, dueAt, neverDue, lastRefusal}
-use Rattle.rules.specs.Calls.{State, Stepped, Call, admitCall, promoteCall, removeCall, timerCall, restartCall, step, refuse, answering, keeping, shaped, blocksIn, headsIn, freshState, fresh, known, takesSlot, admit, isNext, promotedTo, promote, holdsActive, remove, asked, timer, earliestDeadline, restart}
+use Rattle.rules.specs.Answers.{Answer, refused, done, slot, freed, hangs, request, noneDue, dueAt, neverDue, lastRefusal}
+use Rattle.rules.specs.Calls.{State, Stepped, Call, admitCall, promoteCall, removeCall, timerCall, restartCall, step, refuse, answering, keeping, shaped, blocksIn, headsIn, freshState, fresh, known, takesSlot, admit, isNext, promotedTo, promote, holdsActive, remove, under, asked, timer, earliestDeadline, restart}
 use Rattle.rules.proofs.Splits.{split, option?, and-true, true-not-false}
 
 abbrev Numbered : ℕ → Type 0
@@ -26,6 +27,9 @@ Numbered n = (1 ≤ n) × (n ≤ lastRefusal)
 
 abbrev First : ℕ → Type 0
 First n = n ≡ 1
+
+abbrev OneOrThree : ℕ → Type 0
+OneOrThree n = (n ≡ 1) ⊎ (n ≡ 3)
 
 -- if it refuses, then with a number that it may meet, and with the state kept
 Refuses : (ℕ → Type 0) → State → Stepped → Type 0
@@ -36,6 +40,7 @@ isRefusal (refused number) = true
 isRefusal done = false
 isRefusal (slot i) = false
 isRefusal (freed blocks) = false
+isRefusal (hangs blocks highest) = false
 isRefusal (request head claims missing) = false
 isRefusal noneDue = false
 isRefusal (dueAt time) = false
@@ -115,6 +120,24 @@ module _ (s : State) where
       next Numbered s (not (shaped (s .tables))) 1 w (omega arith, omega arith)
       (next Numbered s (not (occupied (b .sequences) i)) 3 z (omega arith, omega arith)
       (next Numbered s (holdsActive b i) 9 y (omega arith, omega arith) (answers Numbered s (y .after) (y .answer) refl)))
+
+  -- ---- under
+
+  pub under-refused : (i n : ℕ) → under s i .answer ≡ refused n → ((n ≡ 1) ⊎ (n ≡ 3)) × (under s i .after ≡ s)
+  unfolding under Refuses
+  under-refused i =
+      let b = s .tables .blocks in
+      let blocks = hanging (b .parents) (b .sequences) i in
+      let y = answering s (hangs (length blocks) (highest (b .sequences) blocks)) in
+      let w = if not (occupied (b .sequences) i) then refuse s 3 else y in
+      next OneOrThree s (not (shaped (s .tables))) 1 w (inl refl)
+      (next OneOrThree s (not (occupied (b .sequences) i)) 3 y (inr refl) (answers OneOrThree s s (y .answer) refl))
+
+  pub under-keeps : (i : ℕ) → under s i .after ≡ s
+  unfolding under
+  under-keeps i = split (shaped (s .tables))
+      (λ e. split (occupied (s .tables .blocks .sequences) i) (λ o. rw (e, o)) (λ o. rw (e, o)))
+      (λ e. rw e)
 
   -- ---- calls that meet refusal 1 only
 

@@ -1,13 +1,15 @@
--- Lists of calls computed whole: the trial that 01 gives ("One trial whole"), and lists that a wrong rule gets wrong.
+-- Lists of calls computed whole: the trial that 01 gives ("One trial whole"), and lists that a wrong rule gets wrong. What hangs under the
+-- blocks of damaged tables.
 use mathlib.Core.Path.{_≡_, refl}
 use mathlib.Core.List.{List, [], _∷_, _++_, map}
 use mathlib.Core.Option.{some}
-use Prim.Native.Nat.{ℕ}
-use lib.ListN.{replicate}
+use Prim.Native.Nat.{ℕ, _*_}
+use lib.ListN.{length, replicate}
 use Rattle.rules.specs.Common.{lowest, better, best, countBelow, allBelow, inOrder}
 use Rattle.rules.specs.Hashes.{hashLength, bytesFrom, hashAt, putHash, sameHash, hashLess}
 use Rattle.rules.specs.Records.{NONE, slotsOf, occupied, used, active, isConnected, stored, withStatus, putBlock, putHead, emptyBlocks, emptyHeads, blocksFit, headsFit}
 use Rattle.rules.specs.BlockTable.{isBlock, find, nextFree, findParent, childOf, children, childless, reaches, inSubtree, markSubtree, adjusted, adjustCounts, setOccupied, setOnActiveChain, setStatus, delete, insertAt, resolveParent, adjust}
+use Rattle.rules.specs.Under.{onLevel, met, hanging, highest}
 use Rattle.rules.specs.Anchor.{anchorFrom, locateAnchor}
 use Rattle.rules.specs.Caches.{waitsAt, knowing, missingPart, keep, recompute, slotOfHead, refreshHead, recomputeUsed, recomputeAll}
 use Rattle.rules.specs.Eviction.{blockBefore, mayGo, victim, evictFrom, evict, evictOne}
@@ -16,8 +18,8 @@ use Rattle.rules.specs.Promotion.{activate, promoted}
 use Rattle.rules.specs.Removal.{recount, recountAll, listed, headFreed, takesOver, heir, dropHead, dropHeads, blocksDeleted, freeAll, removed}
 use Rattle.rules.specs.Rebuild.{rebuildAt, rebuildHeads, rebuilt, restarted}
 use Rattle.rules.specs.Timer.{due, mayAsk, asksBefore, chosen, claimed, askAt, recovery, markRequested}
-use Rattle.rules.specs.Answers.{Answer, refused, done, slot, freed, request}
-use Rattle.rules.specs.Calls.{State, Call, admitCall, promoteCall, removeCall, timerCall, restartCall, shaped, freshState, admitAt, admit, isNext, promote, holdsActive, remove, asked, timer, restart, step, run}
+use Rattle.rules.specs.Answers.{Answer, refused, done, slot, freed, hangs, request}
+use Rattle.rules.specs.Calls.{State, Call, admitCall, promoteCall, removeCall, timerCall, restartCall, shaped, freshState, admitAt, admit, isNext, promote, holdsActive, remove, under, asked, timer, restart, step, run}
 use Rattle.rules.specs.Promises.{Made, made}
 
 -- 32 bytes alike
@@ -210,3 +212,63 @@ rows = whole ∷ active-kept ∷ sibling-gone ∷ late-child ∷ subtree-gone �
 as-said : map (λ (r : Row). r .given) rows ≡ map (λ (r : Row). r .said) rows
 unfolding rows trial whole active-kept sibling-gone late-child subtree-gone refreshed zeros-kept mended made step run freshState emptyBlocks emptyHeads lowest better best countBelow allBelow inOrder bytesFrom hashAt putHash sameHash hashLess slotsOf occupied used active isConnected stored withStatus putBlock putHead isBlock find nextFree findParent childOf children childless reaches inSubtree markSubtree adjusted adjustCounts setOccupied setOnActiveChain setStatus delete insertAt resolveParent adjust anchorFrom locateAnchor waitsAt knowing missingPart keep recompute slotOfHead refreshHead recomputeUsed recomputeAll blockBefore mayGo victim evictFrom evict evictOne firstEmpty seatHead makeRoom insertHead moveUp fork placeHead misses late joined link linkLate recomputeMissed linkTails recomputeMissing resolveTails admitted outgrown refreshOutgrown refreshTails activate promoted recount recountAll listed headFreed takesOver heir dropHead dropHeads blocksDeleted freeAll removed rebuildAt rebuildHeads rebuilt restarted due mayAsk asksBefore chosen claimed askAt recovery markRequested blocksFit headsFit shaped admitAt admit isNext promote holdsActive remove asked timer restart
 as-said = refl
+
+-- ---- what hangs under a block
+
+-- a table with these parents and sequences, and no head
+abbrev damaged : List ℕ → List ℕ → State
+damaged parents sequences = record {
+  tables = record {
+    blocks = record {
+      hashes = replicate (length parents * hashLength) 0;
+      parents = parents;
+      sequences = sequences;
+      counts = replicate (length parents) 0;
+      flags = replicate (length parents) 0;
+    };
+    heads = emptyHeads 2;
+  };
+  activeHead = NONE;
+}
+
+-- what the call answers, beside what 02 says
+record Hanging : Type 0 where
+  answer : Answer
+  says : Answer
+
+abbrev hangingAt : State → ℕ → Answer → Hanging
+hangingAt s i says = record { answer = under s i .answer; says = says }
+
+-- its own parent, alone
+unfoldable alone : State
+alone = damaged (0 ∷ []) (5 ∷ [])
+
+-- its own parent, and that of all others: n · n - n + 1
+unfoldable most : State
+most = damaged (0 ∷ 0 ∷ 0 ∷ []) (5 ∷ 6 ∷ 7 ∷ [])
+
+-- a ring of all n
+unfoldable round : State
+round = damaged (1 ∷ 2 ∷ 0 ∷ []) (5 ∷ 7 ∷ 6 ∷ [])
+
+-- a ring of two, and a tree upon it
+unfoldable ringed : State
+ringed = damaged (1 ∷ 0 ∷ 1 ∷ 2 ∷ []) (5 ∷ 6 ∷ 7 ∷ 8 ∷ [])
+
+-- an empty slot whose parent cell names the first block, and a block whose parent it is
+unfoldable broken : State
+broken = damaged (NONE ∷ 0 ∷ 1 ∷ []) (5 ∷ NONE ∷ 7 ∷ [])
+
+under-rows : List Hanging
+under-rows =
+    hangingAt alone 0 (hangs 1 5)
+    ∷ hangingAt most 0 (hangs 7 7) ∷ hangingAt most 1 (hangs 1 6)
+    ∷ hangingAt round 0 (hangs 3 7) ∷ hangingAt round 2 (hangs 3 7)
+    ∷ hangingAt ringed 0 (hangs 6 8) ∷ hangingAt ringed 2 (hangs 2 8)
+    ∷ hangingAt broken 0 (hangs 1 5) ∷ hangingAt broken 1 (refused 3) ∷ hangingAt broken 2 (hangs 1 7) ∷ hangingAt broken 3 (refused 3)
+    ∷ hangingAt (damaged (0 ∷ 0 ∷ []) (5 ∷ [])) 0 (refused 1)
+    ∷ []
+
+under-as-said : map (λ (r : Hanging). r .answer) under-rows ≡ map (λ (r : Hanging). r .says) under-rows
+unfolding under-rows alone most round ringed broken emptyHeads allBelow slotsOf occupied onLevel met hanging highest blocksFit headsFit shaped under
+under-as-said = refl

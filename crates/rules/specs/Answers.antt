@@ -41,6 +41,8 @@ use Rattle.rules.specs.declared.Removed.{Removed}
 use Rattle.rules.specs.declared.Removed.the-variants as removed
 use Rattle.rules.specs.declared.Timed.{Timed}
 use Rattle.rules.specs.declared.Timed.the-variants as timed
+use Rattle.rules.specs.declared.Hanging.{Hanging}
+use Rattle.rules.specs.declared.Hanging.the-variants as hanging
 use Rattle.rules.specs.declared.TimerAnswer.{TimerAnswer}
 use Rattle.rules.specs.declared.DeadlineAnswer.{DeadlineAnswer}
 use Rattle.rules.specs.declared.DeadlineAnswer.the-variants as deadlineAnswer
@@ -115,6 +117,7 @@ pub data Answer : Type 0 where
   done : Answer
   slot : (i : BlockSlot) → Answer
   freed : (blocks : ℕ) → Answer
+  hangs : (blocks : ℕ) (highest : Sequence) → Answer
   request : (head : HeadSlot) (claims : Sequence) (missing : Hash) → Answer
   noneDue : Answer
   dueAt : (time : Time) → Answer
@@ -132,6 +135,10 @@ abbrev pub removedSaid : (answer : Removed) → Answer
 removedSaid (removed.Freed blocks) = freed blocks
 removedSaid (removed.Refused why) = refused (refusalNumber why)
 
+abbrev pub hangingSaid : (answer : Hanging) → Answer
+hangingSaid (hanging.Blocks blocks highest) = hangs blocks (highest .0)
+hangingSaid (hanging.Refused why) = refused (refusalNumber why)
+
 abbrev pub timedSaid : (answer : Timed) (missing : Hash) → Answer
 timedSaid (timed.Request head sequence) missing = request (head .0) (sequence .0) missing
 timedSaid timed.NoneDue missing = noneDue
@@ -147,6 +154,7 @@ hashAsked (refused number) = zeroHash
 hashAsked done = zeroHash
 hashAsked (slot i) = zeroHash
 hashAsked (freed blocks) = zeroHash
+hashAsked (hangs blocks highest) = zeroHash
 hashAsked noneDue = zeroHash
 hashAsked (dueAt time) = zeroHash
 hashAsked neverDue = zeroHash

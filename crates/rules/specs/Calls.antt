@@ -11,12 +11,13 @@ use Rattle.rules.specs.Common.{if_then_else_, isSome, lowest}
 use Rattle.rules.specs.Hashes.{hashLength, zeroHash, hashAt, sameHash}
 use Rattle.rules.specs.Records.{NONE, Blocks, Tables, slotsOf, parentAt, occupied, active, emptyBlocks, emptyHeads, withBlocks, withHeads, withRequested, blocksFit, headsFit, blockOf}
 use Rattle.rules.specs.BlockTable.{find, nextFree, findParent, inSubtree, markSubtree, insertAt}
+use Rattle.rules.specs.Under.{hanging, highest}
 use Rattle.rules.specs.Admission.{admitted, refreshTails}
 use Rattle.rules.specs.Removal.{removed}
 use Rattle.rules.specs.Promotion.{promoted}
 use Rattle.rules.specs.Rebuild.{restarted}
 use Rattle.rules.specs.Timer.{Ask, spanOr, recovery, markRequested, deadline}
-use Rattle.rules.specs.Answers.{Answer, refused, done, slot, freed, request, noneDue, dueAt, neverDue}
+use Rattle.rules.specs.Answers.{Answer, refused, done, slot, freed, hangs, request, noneDue, dueAt, neverDue}
 use Rattle.rules.specs.declared.Block.{Block}
 
 -- the tables, and the record that holds the active head's slot or NONE_REF
@@ -142,6 +143,18 @@ remove s root =
     else if holdsActive b root then refuse s 9
     else answering (keeping s (removed (s .tables) root)) (freed (length (markSubtree (b .parents) (b .sequences) root)))
 
+-- ---- under
+
+-- the number of blocks that hang under a slot, a block met at several levels counted at each, and the highest sequence among them
+-- (02, S-1); nothing is written
+unfoldable pub under : (s : State) (root : BlockSlot) → Stepped
+under s root =
+    let b = s .tables .blocks in
+    let listed = hanging (b .parents) (b .sequences) root in
+    if not (shaped (s .tables)) then refuse s 1
+    else if not (occupied (b .sequences) root) then refuse s 3
+    else answering s (hangs (length listed) (highest (b .sequences) listed))
+
 -- ---- timer and deadline
 
 -- the chosen head's request time becomes now
@@ -183,7 +196,7 @@ pub record Sets (said : Answer) (held : BlockSlot) (left : Tables) (rule : Stepp
   pub records : held ≡ rule .after .activeHead
   pub leaves : left ≡ rule .after .tables
 
--- ---- lists of calls; fresh is not among them
+-- ---- lists of calls; fresh is not among them, nor what writes nothing: under and the deadline
 
 pub data Call : Type 0 where
   admitCall : (sequence : Sequence) (hash previous : Hash) (arrival : Time) → Call

@@ -3,6 +3,7 @@ pub mod Kinds
 pub mod Hashes
 pub mod Records
 pub mod BlockTable
+pub mod Under
 pub mod Anchor
 pub mod Caches
 pub mod Eviction

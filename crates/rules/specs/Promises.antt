@@ -1,11 +1,11 @@
 -- Demand 3 (00, and 01 "Lists of calls"): what holds after every list of calls, worked out afresh from the blocks, the
--- calls and their answers.
+-- calls and their answers; and what hangs under a block (02, S-1), beside what `mark_subtree` lists.
 use mathlib.Core.Path.{_≡_}
 use mathlib.Core.Logic.{_≢_, _⊎_, _↔_}
 use mathlib.Core.Bool.{Bool, true, not, _&&_}
 use mathlib.Core.List.{List, [], _∷_, _++_}
 use mathlib.Core.Option.{Option, none, some}
-use Prim.Native.Nat.{ℕ, suc, _%_, _≤_, max}
+use Prim.Native.Nat.{ℕ, suc, _+_, _*_, _%_, _≤_, _<_, max}
 use lib.Dec.{eqb}
 use lib.ListN.{length, getD}
 use Rattle.rules.specs.Kinds.{BlockSlot, HeadSlot, Sequence, Time, Hash}
@@ -16,9 +16,9 @@ use Rattle.rules.specs.Caches.{slotOfHead}
 use Rattle.rules.specs.Eviction.{victim}
 use Rattle.rules.specs.Admission.{oneMore, firstEmpty}
 use Rattle.rules.specs.Rebuild.{isLeaf, rebuiltBelow, headless}
-use Rattle.rules.specs.Answers.{Answer, refused, done, slot, freed, request, noneDue, dueAt, neverDue}
-use Rattle.rules.specs.Calls.{State, Call, admitCall, promoteCall, removeCall, timerCall, restartCall, step, run, shaped, parentFound, inserted, fresh}
-use Rattle.rules.specs.BlockTable.{maxCount}
+use Rattle.rules.specs.Answers.{Answer, refused, done, slot, freed, hangs, request, noneDue, dueAt, neverDue}
+use Rattle.rules.specs.Calls.{State, Call, admitCall, promoteCall, removeCall, timerCall, restartCall, step, run, shaped, blocksIn, parentFound, inserted, fresh, under}
+use Rattle.rules.specs.BlockTable.{maxCount, markSubtree}
 
 -- ---- the tables, slot by slot
 
@@ -133,6 +133,7 @@ slotReturned (refused number) = none
 slotReturned done = none
 slotReturned (slot i) = some i
 slotReturned (freed blocks) = none
+slotReturned (hangs blocks highest) = none
 slotReturned (request head claims missing) = none
 slotReturned noneDue = none
 slotReturned (dueAt time) = none
@@ -230,6 +231,38 @@ pub record Mended (s : State) (now : Time) : Type 0 where
   pub stays : (i : BlockSlot) → Active s i → Active (step s (restartCall now) .after) i × (name (step s (restartCall now) .after) i ≡ name s i)
   pub victims : FindsVictims s (restartCall now)
 
+-- ---- how much hangs under a block (02, S-1)
+
+-- what `mark_subtree` lists
+abbrev pub marked : (s : State) (i : BlockSlot) → List BlockSlot
+marked s i = markSubtree (s .tables .blocks .parents) (s .tables .blocks .sequences) i
+
+-- so many parent steps lead from i to j, each from an occupied block
+pub data Up (s : State) : ℕ → BlockSlot → BlockSlot → Type 0 where
+  stays : (i : BlockSlot) → Up s 0 i i
+  climbs : (steps : ℕ) (i j : BlockSlot) (there : Occupied s i) (up : Up s steps (parent s i) j) → Up s (suc steps) i j
+
+-- the block lies on no ring of parents shorter than n
+abbrev pub OnNoShortRing : (s : State) (i : BlockSlot) → Type 0
+OnNoShortRing s i = (steps : ℕ) → 0 < steps → steps < blocksIn (s .tables) → ¬ (Up s steps i i)
+
+-- a listed block has this sequence, and none has a higher one
+pub record Highest (s : State) (listed : List BlockSlot) (given : Sequence) : Type 0 where
+  pub one : (j : BlockSlot) × Among j listed × (sequence s j ≡ given)
+  pub none : (j : BlockSlot) → Among j listed → sequence s j ≤ given
+
+-- what the call answers for a block of any table
+pub record Weighed (s : State) (i : BlockSlot) : Type 0 where
+  pub number : ℕ
+  pub highest : Sequence
+  pub answers : under s i .answer ≡ hangs number highest
+  -- the highest sequence of what `mark_subtree` lists
+  pub ofMarked : Highest s (marked s i) highest
+  -- and as many as it lists, where the block lies on no ring shorter than n
+  pub asMarked : OnNoShortRing s i → number ≡ length (marked s i)
+  -- n · n - n + 1 at most: itself, and n at each of the n - 1 levels below
+  pub atMost : number + blocksIn (s .tables) ≤ blocksIn (s .tables) * blocksIn (s .tables) + 1
+
 -- ---- what is proved
 
 -- demand 3: every list of calls from what an accepted fresh left
@@ -239,3 +272,14 @@ Demand3 = (s : State) → Accepted (fresh s .answer) → (calls : List Call) →
 -- a restart mends every tree, whatever its counts and heads, in which no block has more children than a count can say
 abbrev pub RestartMends : Type 0
 RestartMends = (s : State) → Tree s → ((i : BlockSlot) → Occupied s i → children s i ≤ maxCount) → (now : Time) → Mended s now
+
+-- S-1: after every list of calls from what an accepted fresh left, the number is the length of what `mark_subtree` lists, and the highest
+-- sequence is that of the list
+abbrev pub UnderReached : Type 0
+UnderReached = (s : State) → Accepted (fresh s .answer) → (calls : List Call) (i : BlockSlot) → Occupied (run (fresh s .after) calls) i
+    → (given : Sequence) × (under (run (fresh s .after) calls) i .answer ≡ hangs (length (marked (run (fresh s .after) calls) i)) given)
+    × Highest (run (fresh s .after) calls) (marked (run (fresh s .after) calls) i) given
+
+-- and of every table of a right shape, damaged or not
+abbrev pub UnderAny : Type 0
+UnderAny = (s : State) → shaped (s .tables) ≡ true → (i : BlockSlot) → Occupied s i → Weighed s i

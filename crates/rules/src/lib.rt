@@ -192,6 +192,12 @@ pub enum Removed {
     Refused(Refusal),
 }
 
+// The answer of under: how many blocks hang under a block, itself among them, and the highest sequence among them.
+pub enum Hanging {
+    Blocks(u32, Sequence),
+    Refused(Refusal),
+}
+
 // The answer of timer; the hash that is asked for stands beside it.
 pub enum Timed {
     Request(HeadSlot, Sequence),

@@ -17,6 +17,8 @@ A line is a letter and its fields, each after one space. It prints:
                 A and the slot of the new block
   P slot        P and the slot, whose block is promoted
   D slot        D and how many blocks are freed: this one and all that follow it
+  U slot        U, how many blocks hang under the slot, its own among them, and
+                the highest sequence among them
   T now retry   T, the head to ask for, the claimed sequence and the missing
                 hash; T - where no head is due
   R now         R; heads and counts are made anew from the blocks

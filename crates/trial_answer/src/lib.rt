@@ -10,6 +10,7 @@ use trial_calls::tell_promote;
 use trial_calls::tell_remove;
 use trial_calls::tell_restart;
 use trial_calls::tell_timer;
+use trial_calls::tell_under;
 use trial_calls::tell_unread;
 use trial_lines::Line;
 
@@ -92,6 +93,23 @@ pub fn answer(
             at,
         ),
         Line::Remove(slot) => tell_remove(
+            hashes,
+            parents,
+            sequences,
+            counts,
+            flags,
+            tips,
+            tails,
+            missing,
+            requested,
+            arrivals,
+            connected,
+            active,
+            slot,
+            out,
+            at,
+        ),
+        Line::Under(slot) => tell_under(
             hashes,
             parents,
             sequences,

@@ -6,7 +6,7 @@ ghost use Prim.Native.Nat.{ℕ};
 ghost use Rattle.rules.specs.Records.{Tables, before, after};
 ghost use Rattle.rules.specs.Answers.{outcomeSaid};
 ghost use Rattle.rules.specs.Calls.{stateOf};
-ghost use Rattle.trial_lines.specs.declared.Line.the-variants.{Fresh, Admit, Promote, Remove, Timer, Restart, Unread};
+ghost use Rattle.trial_lines.specs.declared.Line.the-variants.{Fresh, Admit, Promote, Remove, Under, Timer, Restart, Unread};
 ghost use Rattle.trial_calls.specs.Calling.{isRefused, Tells};
 use admit_call::admit;
 use fresh_call::fresh;
@@ -24,7 +24,9 @@ use trial_lines::answers::promote_line;
 use trial_lines::answers::remove_line;
 use trial_lines::answers::restart_line;
 use trial_lines::answers::timer_line;
+use trial_lines::answers::under_line;
 use trial_lines::lines::letter_line;
+use under_call::under;
 
 // What the record holds after a line, whether the line brings new tables, and the place after what it prints.
 pub struct Told {
@@ -232,6 +234,51 @@ pub fn tell_remove(
         active,
         renewed: false,
         at: remove_line(out, at, answer),
+    }
+}
+
+// Asks how much hangs under the slot and prints the number of blocks and the highest sequence, or the refusal.
+pub fn tell_under(
+    hashes: &[u8],
+    parents: &[u32],
+    sequences: &[u32],
+    counts: &[u8],
+    flags: &[u8],
+    tips: &[u32],
+    tails: &[u32],
+    missing: &[u8],
+    requested: &[u64],
+    arrivals: &[u64],
+    connected: &[u8],
+    active: BlockSlot,
+    slot: BlockSlot,
+    out: &mut [u8],
+    at: usize,
+) -> Told
+    ensures { λ r. ⌜ Tells
+        (stateOf (before hashes parents sequences counts flags tips tails missing requested arrivals connected) (active .0))
+        (Under slot) (now (out .entry)) at
+        (stateOf (after hashes parents sequences counts flags tips tails missing requested arrivals connected) (r .active .0))
+        (r .renewed) (now (out .exit)) (r .at) ⌝ }
+{
+    let answer = under(
+        hashes,
+        parents,
+        sequences,
+        counts,
+        flags,
+        tips,
+        tails,
+        missing,
+        requested,
+        arrivals,
+        connected,
+        slot,
+    );
+    Told {
+        active,
+        renewed: false,
+        at: under_line(out, at, answer),
     }
 }
 

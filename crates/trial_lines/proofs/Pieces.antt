@@ -4,7 +4,7 @@ use mathlib.Core.Bool.{Bool}
 use mathlib.Core.List.{List, [], _∷_, flatten}
 use Prim.Native.Nat.{ℕ}
 use Rattle.rules.specs.Common.{if_then_else_}
-use Rattle.trial_lines.specs.Writing.{hex, field, reference, letterLine, numberLine, requestLine, noneDueLine, blockLine, headLine}
+use Rattle.trial_lines.specs.Writing.{hex, field, reference, letterLine, numberLine, hangingLine, requestLine, noneDueLine, blockLine, headLine}
 use Rattle.trial_lines.proofs.Places.{Put, Puts, puts-put}
 
 module _ (l m : List ℕ) (at r : ℕ) where
@@ -15,6 +15,12 @@ module _ (l m : List ℕ) (at r : ℕ) where
   pub number-pieces : (letter n : ℕ) → Puts l at ((letter ∷ []) ∷ field n ∷ (10 ∷ []) ∷ []) m r → Put l at (numberLine letter n) m r
   unfolding numberLine flatten
   number-pieces letter n p = puts-put l m at r _ p
+
+  pub hanging-pieces : (blocks highest : ℕ)
+      → Puts l at ((85 ∷ []) ∷ field blocks ∷ field highest ∷ (10 ∷ []) ∷ []) m r
+      → Put l at (hangingLine blocks highest) m r
+  unfolding hangingLine flatten
+  hanging-pieces blocks highest p = puts-put l m at r _ p
 
   pub request-pieces : (head claimed hash : ℕ)
       → Puts l at ((84 ∷ []) ∷ field head ∷ field claimed ∷ (32 ∷ []) ∷ hex hash ∷ (10 ∷ []) ∷ []) m r

@@ -8,7 +8,7 @@ use lib.Dec.{eqb, ltb}
 use lib.ListN.{length, length-append}
 use Rattle.rules.specs.Records.{NONE}
 use Rattle.rules.proofs.Splits.{split}
-use Rattle.trial_lines.specs.Writing.{digit, digitsIn, digits, hex, field, reference, numberLine, requestLine, blockLine, headLine}
+use Rattle.trial_lines.specs.Writing.{digit, digitsIn, digits, hex, field, reference, numberLine, hangingLine, requestLine, blockLine, headLine}
 
 pub digits-short : (places n : ℕ) → length (digitsIn places n) ≤ places
 unfolding digitsIn
@@ -33,6 +33,10 @@ hex-two byte = refl
 pub number-short : (letter n : ℕ) → length (numberLine letter n) ≤ 96
 unfolding numberLine
 number-short letter n = simp length-append (omega (arith, field-short n))
+
+pub hanging-short : (blocks highest : ℕ) → length (hangingLine blocks highest) ≤ 96
+unfolding hangingLine
+hanging-short blocks highest = simp length-append (omega (arith, field-short blocks, field-short highest))
 
 pub request-short : (head claimed hash : ℕ) → length (requestLine head claimed hash) ≤ 96
 unfolding requestLine

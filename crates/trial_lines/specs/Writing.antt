@@ -50,6 +50,10 @@ letterLine letter = letter ∷ 10 ∷ []
 unfoldable pub numberLine : (letter n : ℕ) → List ℕ
 numberLine letter n = letter ∷ (field n ++ 10 ∷ [])
 
+-- U blocks highest
+unfoldable pub hangingLine : (blocks : ℕ) (highest : Sequence) → List ℕ
+hangingLine blocks highest = 85 ∷ (field blocks ++ (field highest ++ 10 ∷ []))
+
 -- T head claimed hash
 unfoldable pub requestLine : (head : HeadSlot) (claimed : Sequence) (hash : ℕ) → List ℕ
 requestLine head claimed hash = 84 ∷ (field head ++ (field claimed ++ 32 ∷ (hex hash ++ 10 ∷ [])))

@@ -3,9 +3,10 @@ ghost use mathlib.Core.Path.{_≡_};
 ghost use mathlib.Core.List.{[]};
 ghost use lib.ListN.{length};
 ghost use lib.Seq.{sets};
-ghost use Rattle.rules.specs.Answers.{outcomeSaid, admittedSaid, removedSaid, timedSaid};
+ghost use Rattle.rules.specs.Answers.{outcomeSaid, admittedSaid, removedSaid, hangingSaid, timedSaid};
 ghost use Rattle.trial_lines.specs.Writing.{place, letterLine, numberLine};
 ghost use Rattle.trial_lines.specs.Said.{said};
+use crate::lines::hanging_line;
 use crate::lines::letter_line;
 use crate::lines::none_due_line;
 use crate::lines::number_line;
@@ -13,6 +14,7 @@ use crate::lines::request_line;
 use query_numbers::refusal_number;
 use rules::Admitted;
 use rules::BlockSlot;
+use rules::Hanging;
 use rules::Outcome;
 use rules::Refusal;
 use rules::Removed;
@@ -59,6 +61,17 @@ pub fn remove_line(out: &mut [u8], at: usize, answer: Removed) -> usize
     match answer {
         Removed::Freed(blocks) => number_line(out, at, b'D', blocks),
         Removed::Refused(why) => number_line(out, at, b'E', refusal_number(why)),
+    }
+}
+
+// `U`, the number of blocks under the slot and the highest sequence among them, or the refusal.
+pub fn under_line(out: &mut [u8], at: usize, answer: Hanging) -> usize
+    ensures { λ r. ⌜ (now (out .exit) ≡ sets (now (out .entry)) at (said [] (hangingSaid answer)))
+        × (r ≡ place (length (now (out .entry))) at (length (said [] (hangingSaid answer)))) ⌝ }
+{
+    match answer {
+        Hanging::Blocks(blocks, highest) => hanging_line(out, at, blocks, highest),
+        Hanging::Refused(why) => number_line(out, at, b'E', refusal_number(why)),
     }
 }
 

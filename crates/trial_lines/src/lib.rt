@@ -22,6 +22,7 @@ pub enum Line {
     Admit(Sequence, u8, u8, u64),
     Promote(BlockSlot),
     Remove(BlockSlot),
+    Under(BlockSlot),
     Timer(u64, u64),
     Restart(u64),
     Unread,

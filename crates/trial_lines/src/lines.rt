@@ -3,7 +3,7 @@ ghost use mathlib.Core.Path.{_≡_};
 ghost use lib.ListN.{length};
 ghost use lib.Seq.{sets};
 ghost use Rattle.rules.specs.Common.{if_then_else_};
-ghost use Rattle.trial_lines.specs.Writing.{place, numberLine, requestLine, noneDueLine, letterLine, blockLine, headLine};
+ghost use Rattle.trial_lines.specs.Writing.{place, numberLine, hangingLine, requestLine, noneDueLine, letterLine, blockLine, headLine};
 use crate::text::put;
 use crate::text::put_field;
 use crate::text::put_hex;
@@ -35,6 +35,17 @@ pub fn letter_line(out: &mut [u8], at: usize, letter: u8) -> usize
 {
     let a = put(out, at, letter);
     put(out, a, b'\n')
+}
+
+// How much hangs under a block: the number of blocks, and the highest sequence among them.
+pub fn hanging_line(out: &mut [u8], at: usize, blocks: u32, highest: Sequence) -> usize
+    ensures { λ r. ⌜ (now (out .exit) ≡ sets (now (out .entry)) at (hangingLine blocks (highest .0)))
+        × (r ≡ place (length (now (out .entry))) at (length (hangingLine blocks (highest .0)))) ⌝ }
+{
+    let a = put(out, at, b'U');
+    let b = put_field(out, a, blocks);
+    let c = put_field(out, b, highest.0);
+    put(out, c, b'\n')
 }
 
 // A timer's request: the head, the claimed sequence, and the hash by its byte.

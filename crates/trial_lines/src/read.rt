@@ -1,6 +1,6 @@
 // A line read: its letter says which fields follow.
 ghost use mathlib.Core.Path.{_≡_};
-ghost use Rattle.trial_lines.specs.Reading.{freshOf, admitOf, promoteOf, removeOf, timerOf, restartOf, parse};
+ghost use Rattle.trial_lines.specs.Reading.{freshOf, admitOf, promoteOf, removeOf, underOf, timerOf, restartOf, parse};
 use crate::Byte;
 use crate::Line;
 use crate::Time;
@@ -64,6 +64,15 @@ fn read_remove(fields: &[u8]) -> Line
     }
 }
 
+fn read_under(fields: &[u8]) -> Line
+    ensures { λ r. ⌜ r ≡ underOf (now (fields .entry)) ⌝ }
+{
+    match read_word(fields) {
+        Word::Value(slot) => Line::Under(BlockSlot(slot)),
+        Word::Unread => Line::Unread,
+    }
+}
+
 fn read_timer(fields: &[u8]) -> Line
     ensures { λ r. ⌜ r ≡ timerOf (now (fields .entry)) ⌝ }
 {
@@ -85,7 +94,7 @@ fn read_restart(fields: &[u8]) -> Line
     }
 }
 
-// What the line asks for: N, A, P, D, T or R with its fields; anything else is unread.
+// What the line asks for: N, A, P, D, U, T or R with its fields; anything else is unread.
 pub fn read_line(line: &[u8]) -> Line
     ensures { λ r. ⌜ r ≡ parse (now (line .entry)) ⌝ }
 {
@@ -102,6 +111,9 @@ pub fn read_line(line: &[u8]) -> Line
     }
     if kind == b'D' {
         return read_remove(fields);
+    }
+    if kind == b'U' {
+        return read_under(fields);
     }
     if kind == b'T' {
         return read_timer(fields);

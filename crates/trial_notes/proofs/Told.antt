@@ -12,9 +12,9 @@ use lib.Seq.{getD-drop}
 use Rattle.rules.specs.Common.{isSome}
 use Rattle.rules.proofs.Splits.{split, true-not-false, and-true, and-false-r}
 use Rattle.trial_lines.specs.Begun.{Begun, soFar, tooLong, lineBegun}
-use Rattle.trial_lines.specs.Reading.{fieldLength, first, rest, letter, isDigit, allDigits, number, wordMost, timeMost, hashByte, freshRead, admitRead, timerRead, freshOf, admitOf, promoteOf, removeOf, timerOf, restartOf, parse}
+use Rattle.trial_lines.specs.Reading.{fieldLength, first, rest, letter, isDigit, allDigits, number, wordMost, timeMost, hashByte, freshRead, admitRead, timerRead, freshOf, admitOf, promoteOf, removeOf, underOf, timerOf, restartOf, parse}
 use Rattle.trial_lines.specs.declared.Line.{Line}
-use Rattle.trial_lines.specs.declared.Line.the-variants.{Fresh, Admit, Promote, Remove, Timer, Restart, Unread}
+use Rattle.trial_lines.specs.declared.Line.the-variants.{Fresh, Admit, Promote, Remove, Under, Timer, Restart, Unread}
 use Rattle.trial_lines.proofs.Bytes.{number-empty, number-not}
 use Rattle.trial_notes.specs.Faults.{isNothing, unless, found, numberFault, wordFault, timeFault, hashReason, hashFault, inner, last, freshFault, admitFault, timerFault, letterFault, fieldsFault, lastByte, faultOf}
 use Rattle.trial_notes.specs.Notes.{begunFault}
@@ -27,6 +27,7 @@ isRead (Fresh n m) = true
 isRead (Admit sequence hash previous arrival) = true
 isRead (Promote slot) = true
 isRead (Remove slot) = true
+isRead (Under slot) = true
 isRead (Timer now retry) = true
 isRead (Restart now) = true
 isRead Unread = false
@@ -128,17 +129,10 @@ admit-read (some s) (some h) none a = refl
 admit-read (some s) (some h) (some p) none = refl
 admit-read (some s) (some h) (some p) (some a) = refl
 
-promote-read : (slot : Option ℕ) → isSome slot ≡ isRead (elim slot [ none ↦ Unread | some k ↦ Promote (record { 0 = k }) ])
-promote-read none = refl
-promote-read (some k) = refl
-
-remove-read : (slot : Option ℕ) → isSome slot ≡ isRead (elim slot [ none ↦ Unread | some k ↦ Remove (record { 0 = k }) ])
-remove-read none = refl
-remove-read (some k) = refl
-
-restart-read : (clock : Option ℕ) → isSome clock ≡ isRead (elim clock [ none ↦ Unread | some k ↦ Restart k ])
-restart-read none = refl
-restart-read (some k) = refl
+-- a line of one field
+one-read : (line : ℕ → Line) → ((k : ℕ) → isRead (line k) ≡ true) → (field : Option ℕ) → isSome field ≡ isRead (elim field [ none ↦ Unread | some k ↦ line k ])
+one-read line read none = refl
+one-read line read (some k) = sym (read k)
 
 fresh-told : (fields : List ℕ) → isNothing (freshFault fields) ≡ isRead (freshOf fields)
 unfolding freshFault freshOf
@@ -169,15 +163,19 @@ admit-told fields =
 
 promote-told : (fields : List ℕ) → isNothing (last wordFault fields) ≡ isRead (promoteOf fields)
 unfolding promoteOf
-promote-told fields = last-number wordMost _ fields ∙ promote-read (number wordMost fields)
+promote-told fields = last-number wordMost _ fields ∙ one-read (λ k. Promote (record { 0 = k })) (λ k. refl) (number wordMost fields)
 
 remove-told : (fields : List ℕ) → isNothing (last wordFault fields) ≡ isRead (removeOf fields)
 unfolding removeOf
-remove-told fields = last-number wordMost _ fields ∙ remove-read (number wordMost fields)
+remove-told fields = last-number wordMost _ fields ∙ one-read (λ k. Remove (record { 0 = k })) (λ k. refl) (number wordMost fields)
+
+under-told : (fields : List ℕ) → isNothing (last wordFault fields) ≡ isRead (underOf fields)
+unfolding underOf
+under-told fields = last-number wordMost _ fields ∙ one-read (λ k. Under (record { 0 = k })) (λ k. refl) (number wordMost fields)
 
 restart-told : (fields : List ℕ) → isNothing (last timeFault fields) ≡ isRead (restartOf fields)
 unfolding restartOf
-restart-told fields = last-number timeMost _ fields ∙ restart-read (number timeMost fields)
+restart-told fields = last-number timeMost _ fields ∙ one-read Restart (λ k. refl) (number timeMost fields)
 
 fields-told : (line : List ℕ) → isNothing (fieldsFault line) ≡ isRead (parse line)
 unfolding fieldsFault letterFault parse
@@ -190,11 +188,13 @@ fields-told line =
     (λ e. rw (a, b, e) (promote-told (rest line)))
     (λ c. split (eqb (letter line) 68)
     (λ e. rw (a, b, c, e) (remove-told (rest line)))
-    (λ d. split (eqb (letter line) 84)
-    (λ e. rw (a, b, c, d, e) (timer-told (rest line)))
-    (λ f. split (eqb (letter line) 82)
-    (λ e. rw (a, b, c, d, f, e) (restart-told (rest line)))
-    (λ e. rw (a, b, c, d, f, e)))))))
+    (λ d. split (eqb (letter line) 85)
+    (λ e. rw (a, b, c, d, e) (under-told (rest line)))
+    (λ f. split (eqb (letter line) 84)
+    (λ e. rw (a, b, c, d, f, e) (timer-told (rest line)))
+    (λ g. split (eqb (letter line) 82)
+    (λ e. rw (a, b, c, d, f, g, e) (restart-told (rest line)))
+    (λ e. rw (a, b, c, d, f, g, e))))))))
 
 -- ---- the line as a whole: what is read ends in a digit
 
@@ -264,11 +264,13 @@ line-ends line r =
     (λ e. behind (number-ends wordMost (rest line) (sym (last-number wordMost _ (rest line)) ∙ promote-told (rest line) ∙ rw (a, b, e) at r)))
     (λ c. split (eqb (letter line) 68)
     (λ e. behind (number-ends wordMost (rest line) (sym (last-number wordMost _ (rest line)) ∙ remove-told (rest line) ∙ rw (a, b, c, e) at r)))
-    (λ d. split (eqb (letter line) 84)
-    (λ e. behind (timer-ends (rest line) (rw (a, b, c, d, e) at r)))
-    (λ f. split (eqb (letter line) 82)
-    (λ e. behind (number-ends timeMost (rest line) (sym (last-number timeMost _ (rest line)) ∙ restart-told (rest line) ∙ rw (a, b, c, d, f, e) at r)))
-    (λ e. true-not-false {b = false} (rw (a, b, c, d, f, e) at r) refl))))))
+    (λ d. split (eqb (letter line) 85)
+    (λ e. behind (number-ends wordMost (rest line) (sym (last-number wordMost _ (rest line)) ∙ under-told (rest line) ∙ rw (a, b, c, d, e) at r)))
+    (λ f. split (eqb (letter line) 84)
+    (λ e. behind (timer-ends (rest line) (rw (a, b, c, d, f, e) at r)))
+    (λ g. split (eqb (letter line) 82)
+    (λ e. behind (number-ends timeMost (rest line) (sym (last-number timeMost _ (rest line)) ∙ restart-told (rest line) ∙ rw (a, b, c, d, f, g, e) at r)))
+    (λ e. true-not-false {b = false} (rw (a, b, c, d, f, g, e) at r) refl)))))))
 
 last-unread : (line : List ℕ) (byte : ℕ) → lastByte line ≡ byte → isDigit byte ≡ false → isRead (parse line) ≡ false
 last-unread line byte e d = split (isRead (parse line)) (λ r. true-not-false (line-ends line r .1) (rw e d)) (λ r. r)

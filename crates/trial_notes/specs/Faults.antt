@@ -78,10 +78,10 @@ admitFault fields =
 unfoldable pub timerFault : (fields : List ℕ) → Fault
 timerFault fields = unless (inner timeFault fields) (last timeFault (rest fields))
 
--- ---- the letter: N is 78, A 65, P 80, D 68, T 84, R 82, in lower case 32 more
+-- ---- the letter: N is 78, A 65, P 80, D 68, U 85, T 84, R 82, in lower case 32 more
 
 unfoldable pub isLetter : (byte : ℕ) → Bool
-isLetter b = eqb b 78 || (eqb b 65 || (eqb b 80 || (eqb b 68 || (eqb b 84 || eqb b 82))))
+isLetter b = eqb b 78 || (eqb b 65 || (eqb b 80 || (eqb b 68 || (eqb b 85 || (eqb b 84 || eqb b 82)))))
 
 unfoldable pub letterFault : (byte : ℕ) → Fault
 letterFault b = Is (if isLetter (b - 32) then LowerLetter else NoLetter)
@@ -92,6 +92,7 @@ fieldsFault line =
     else if eqb (letter line) 65 then admitFault (rest line)
     else if eqb (letter line) 80 then last wordFault (rest line)
     else if eqb (letter line) 68 then last wordFault (rest line)
+    else if eqb (letter line) 85 then last wordFault (rest line)
     else if eqb (letter line) 84 then timerFault (rest line)
     else if eqb (letter line) 82 then last timeFault (rest line)
     else letterFault (letter line)

@@ -153,6 +153,9 @@ fn is_letter(byte: u8) -> bool
     if byte == b'D' {
         return true;
     }
+    if byte == b'U' {
+        return true;
+    }
     if byte == b'T' {
         return true;
     }
@@ -187,6 +190,9 @@ fn fields_fault(line: &[u8]) -> Fault
         return number_last(fields, WORD_MOST, Reason::WordTooLarge);
     }
     if kind == b'D' {
+        return number_last(fields, WORD_MOST, Reason::WordTooLarge);
+    }
+    if kind == b'U' {
         return number_last(fields, WORD_MOST, Reason::WordTooLarge);
     }
     if kind == b'T' {

@@ -5,15 +5,15 @@ use Prim.Native.Nat.{ℕ, _+_, _*_, _≤_}
 use native.Mathlib.Omega.{arith}
 use lib.Dec.{eqb}
 use lib.ListN.{length, take, length-append, length-take}
-use Rattle.rules.specs.Answers.{Answer, refused, done, slot, freed, request, noneDue, dueAt, neverDue}
+use Rattle.rules.specs.Answers.{Answer, refused, done, slot, freed, hangs, request, noneDue, dueAt, neverDue}
 use Rattle.rules.specs.Calls.{State}
 use Rattle.rules.proofs.Splits.{split}
 use Rattle.trial_lines.specs.Begun.{hasBegun, chunkMost}
 use Rattle.trial_lines.specs.Writing.{letterLine, noneDueLine}
 use Rattle.trial_lines.specs.Said.{said}
 use Rattle.trial_lines.specs.declared.Line.{Line}
-use Rattle.trial_lines.specs.declared.Line.the-variants.{Fresh, Admit, Promote, Remove, Timer, Restart, Unread}
-use Rattle.trial_lines.proofs.Short.{number-short, request-short}
+use Rattle.trial_lines.specs.declared.Line.the-variants.{Fresh, Admit, Promote, Remove, Under, Timer, Restart, Unread}
+use Rattle.trial_lines.proofs.Short.{number-short, hanging-short, request-short}
 use Rattle.trial_calls.specs.Calling.{doneSaid, lineSaid}
 use Rattle.trial_listing.proofs.Listed.{listing-short}
 use Rattle.trial_session.specs.Session.{Session, lineDone, lineFed, ended, fedByte, fed, lastEnded, tablesListed, closing}
@@ -26,6 +26,7 @@ said-short w (refused number) h = number-short 69 number
 said-short w done h = h
 said-short w (slot new) h = number-short 65 new
 said-short w (freed blocks) h = number-short 68 blocks
+said-short w (hangs blocks highest) h = hanging-short blocks highest
 said-short w (request head claimed missing) h = request-short head claimed _
 said-short w noneDue h = omega arith
 said-short w (dueAt time) h = omega arith
@@ -37,6 +38,7 @@ done-short (Fresh n m) = omega arith
 done-short (Admit sequence hash previous arrival) = omega arith
 done-short (Promote block) = number-short 80 (block .0)
 done-short (Remove block) = omega arith
+done-short (Under block) = omega arith
 done-short (Timer now retry) = omega arith
 done-short (Restart now) = omega arith
 done-short Unread = omega arith

@@ -13,7 +13,7 @@ use Rattle.rules.specs.Calls.{State, Stepped, stateOf, maxBlocks, maxHeads}
 use Rattle.trial_lines.specs.Begun.{lineMost, chunkMost, Begun, hasBegun, lineBegun, begunOf}
 use Rattle.trial_lines.specs.Writing.{place}
 use Rattle.trial_lines.specs.declared.Line.{Line}
-use Rattle.trial_lines.specs.declared.Line.the-variants.{Fresh, Admit, Promote, Remove, Timer, Restart, Unread}
+use Rattle.trial_lines.specs.declared.Line.the-variants.{Fresh, Admit, Promote, Remove, Under, Timer, Restart, Unread}
 use Rattle.trial_calls.specs.Calling.{renews}
 use Rattle.trial_fronts.specs.Fronts.{front, behind, before}
 use Rattle.trial_session.specs.Session.{lineDone, Session, Fed, lineFed, fedByte, fed, lastEnded, closing}
@@ -57,6 +57,7 @@ asked z (Fresh n m) = record { n = n; m = m; active = z .active; begun = z .begu
 asked z (Admit sequence hash previous arrival) = z
 asked z (Promote slot) = z
 asked z (Remove slot) = z
+asked z (Under slot) = z
 asked z (Timer now retry) = z
 asked z (Restart now) = z
 asked z Unread = z

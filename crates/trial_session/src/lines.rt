@@ -34,6 +34,7 @@ fn asked(trial: Trial, line: Line) -> Trial
         Line::Admit(_, _, _, _) => trial,
         Line::Promote(_) => trial,
         Line::Remove(_) => trial,
+        Line::Under(_) => trial,
         Line::Timer(_, _) => trial,
         Line::Restart(_) => trial,
         Line::Unread => trial,

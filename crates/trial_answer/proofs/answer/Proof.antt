@@ -19,10 +19,13 @@ promote c = search
 abbrev remove : tie.After-tell-remove → tie.After-line3
 remove c = search
 
-abbrev timer : tie.After-tell-timer → tie.After-line4
+abbrev under : tie.After-tell-under → tie.After-line4
+under c = search
+
+abbrev timer : tie.After-tell-timer → tie.After-line5
 timer c = search
 
-abbrev restart : tie.After-tell-restart → tie.After-line5
+abbrev restart : tie.After-tell-restart → tie.After-line6
 restart c = search
 
 abbrev unread : tie.After-tell-unread → tie.After-enum-told2
@@ -55,11 +58,17 @@ tell-remove-requires c κs = tt
 enum-known-line-4 : tie.Need-enum-known-line-4
 enum-known-line-4 c = search needs
 
-tell-timer-requires : tie.Need-tell-timer-requires
-tell-timer-requires c κs = tt
+tell-under-requires : tie.Need-tell-under-requires
+tell-under-requires c κs = tt
 
 enum-known-line-5 : tie.Need-enum-known-line-5
 enum-known-line-5 c = search needs
+
+tell-timer-requires : tie.Need-tell-timer-requires
+tell-timer-requires c κs = tt
+
+enum-known-line-6 : tie.Need-enum-known-line-6
+enum-known-line-6 c = search needs
 
 tell-restart-requires : tie.Need-tell-restart-requires
 tell-restart-requires c κs = tt
@@ -227,88 +236,127 @@ returns-4 : tie.Need-returns-4
 returns-4 c = let t = the tie.After-tell-remove (search) in tells-of (remove t .line3 .given .1) (t .tell-remove .ensures)
 
 same-length-49 : tie.Need-same-length-49
-same-length-49 c = let t = the tie.After-tell-timer (search) in omega (arith, t .tell-timer .kept)
+same-length-49 c = let t = the tie.After-tell-under (search) in omega (arith, t .tell-under .kept)
 
 same-length-50 : tie.Need-same-length-50
-same-length-50 c = let t = the tie.After-tell-timer (search) in omega (arith, t .tell-timer .kept)
+same-length-50 c = let t = the tie.After-tell-under (search) in omega (arith, t .tell-under .kept)
 
 same-length-51 : tie.Need-same-length-51
-same-length-51 c = let t = the tie.After-tell-timer (search) in omega (arith, t .tell-timer .kept)
+same-length-51 c = let t = the tie.After-tell-under (search) in omega (arith, t .tell-under .kept)
 
 same-length-52 : tie.Need-same-length-52
-same-length-52 c = let t = the tie.After-tell-timer (search) in omega (arith, t .tell-timer .kept)
+same-length-52 c = let t = the tie.After-tell-under (search) in omega (arith, t .tell-under .kept)
 
 same-length-53 : tie.Need-same-length-53
-same-length-53 c = let t = the tie.After-tell-timer (search) in omega (arith, t .tell-timer .kept)
+same-length-53 c = let t = the tie.After-tell-under (search) in omega (arith, t .tell-under .kept)
 
 same-length-54 : tie.Need-same-length-54
-same-length-54 c = let t = the tie.After-tell-timer (search) in omega (arith, t .tell-timer .kept)
+same-length-54 c = let t = the tie.After-tell-under (search) in omega (arith, t .tell-under .kept)
 
 same-length-55 : tie.Need-same-length-55
-same-length-55 c = let t = the tie.After-tell-timer (search) in omega (arith, t .tell-timer .kept)
+same-length-55 c = let t = the tie.After-tell-under (search) in omega (arith, t .tell-under .kept)
 
 same-length-56 : tie.Need-same-length-56
-same-length-56 c = let t = the tie.After-tell-timer (search) in omega (arith, t .tell-timer .kept)
+same-length-56 c = let t = the tie.After-tell-under (search) in omega (arith, t .tell-under .kept)
 
 same-length-57 : tie.Need-same-length-57
-same-length-57 c = let t = the tie.After-tell-timer (search) in omega (arith, t .tell-timer .kept)
+same-length-57 c = let t = the tie.After-tell-under (search) in omega (arith, t .tell-under .kept)
 
 same-length-58 : tie.Need-same-length-58
-same-length-58 c = let t = the tie.After-tell-timer (search) in omega (arith, t .tell-timer .kept)
+same-length-58 c = let t = the tie.After-tell-under (search) in omega (arith, t .tell-under .kept)
 
 same-length-59 : tie.Need-same-length-59
-same-length-59 c = let t = the tie.After-tell-timer (search) in omega (arith, t .tell-timer .kept)
+same-length-59 c = let t = the tie.After-tell-under (search) in omega (arith, t .tell-under .kept)
 
 same-length-60 : tie.Need-same-length-60
-same-length-60 c = let t = the tie.After-tell-timer (search) in omega (arith, t .tell-timer .kept)
+same-length-60 c = let t = the tie.After-tell-under (search) in omega (arith, t .tell-under .kept)
 
 returns-5 : tie.Need-returns-5
-returns-5 c = let t = the tie.After-tell-timer (search) in tells-of (timer t .line4 .given .1) (t .tell-timer .ensures)
+returns-5 c = let t = the tie.After-tell-under (search) in tells-of (under t .line4 .given .1) (t .tell-under .ensures)
 
 same-length-61 : tie.Need-same-length-61
-same-length-61 c = let t = the tie.After-tell-restart (search) in omega (arith, t .tell-restart .kept)
+same-length-61 c = let t = the tie.After-tell-timer (search) in omega (arith, t .tell-timer .kept)
 
 same-length-62 : tie.Need-same-length-62
-same-length-62 c = let t = the tie.After-tell-restart (search) in omega (arith, t .tell-restart .kept)
+same-length-62 c = let t = the tie.After-tell-timer (search) in omega (arith, t .tell-timer .kept)
 
 same-length-63 : tie.Need-same-length-63
-same-length-63 c = let t = the tie.After-tell-restart (search) in omega (arith, t .tell-restart .kept)
+same-length-63 c = let t = the tie.After-tell-timer (search) in omega (arith, t .tell-timer .kept)
 
 same-length-64 : tie.Need-same-length-64
-same-length-64 c = let t = the tie.After-tell-restart (search) in omega (arith, t .tell-restart .kept)
+same-length-64 c = let t = the tie.After-tell-timer (search) in omega (arith, t .tell-timer .kept)
 
 same-length-65 : tie.Need-same-length-65
-same-length-65 c = let t = the tie.After-tell-restart (search) in omega (arith, t .tell-restart .kept)
+same-length-65 c = let t = the tie.After-tell-timer (search) in omega (arith, t .tell-timer .kept)
 
 same-length-66 : tie.Need-same-length-66
-same-length-66 c = let t = the tie.After-tell-restart (search) in omega (arith, t .tell-restart .kept)
+same-length-66 c = let t = the tie.After-tell-timer (search) in omega (arith, t .tell-timer .kept)
 
 same-length-67 : tie.Need-same-length-67
-same-length-67 c = let t = the tie.After-tell-restart (search) in omega (arith, t .tell-restart .kept)
+same-length-67 c = let t = the tie.After-tell-timer (search) in omega (arith, t .tell-timer .kept)
 
 same-length-68 : tie.Need-same-length-68
-same-length-68 c = let t = the tie.After-tell-restart (search) in omega (arith, t .tell-restart .kept)
+same-length-68 c = let t = the tie.After-tell-timer (search) in omega (arith, t .tell-timer .kept)
 
 same-length-69 : tie.Need-same-length-69
-same-length-69 c = let t = the tie.After-tell-restart (search) in omega (arith, t .tell-restart .kept)
+same-length-69 c = let t = the tie.After-tell-timer (search) in omega (arith, t .tell-timer .kept)
 
 same-length-70 : tie.Need-same-length-70
-same-length-70 c = let t = the tie.After-tell-restart (search) in omega (arith, t .tell-restart .kept)
+same-length-70 c = let t = the tie.After-tell-timer (search) in omega (arith, t .tell-timer .kept)
 
 same-length-71 : tie.Need-same-length-71
-same-length-71 c = let t = the tie.After-tell-restart (search) in omega (arith, t .tell-restart .kept)
+same-length-71 c = let t = the tie.After-tell-timer (search) in omega (arith, t .tell-timer .kept)
 
 same-length-72 : tie.Need-same-length-72
-same-length-72 c = let t = the tie.After-tell-restart (search) in omega (arith, t .tell-restart .kept)
+same-length-72 c = let t = the tie.After-tell-timer (search) in omega (arith, t .tell-timer .kept)
 
 returns-6 : tie.Need-returns-6
-returns-6 c = let t = the tie.After-tell-restart (search) in tells-of (restart t .line5 .given .1) (t .tell-restart .ensures)
+returns-6 c = let t = the tie.After-tell-timer (search) in tells-of (timer t .line5 .given .1) (t .tell-timer .ensures)
 
 same-length-73 : tie.Need-same-length-73
-same-length-73 c = let t = the tie.After-tell-unread (search) in omega (arith, t .tell-unread .kept)
+same-length-73 c = let t = the tie.After-tell-restart (search) in omega (arith, t .tell-restart .kept)
+
+same-length-74 : tie.Need-same-length-74
+same-length-74 c = let t = the tie.After-tell-restart (search) in omega (arith, t .tell-restart .kept)
+
+same-length-75 : tie.Need-same-length-75
+same-length-75 c = let t = the tie.After-tell-restart (search) in omega (arith, t .tell-restart .kept)
+
+same-length-76 : tie.Need-same-length-76
+same-length-76 c = let t = the tie.After-tell-restart (search) in omega (arith, t .tell-restart .kept)
+
+same-length-77 : tie.Need-same-length-77
+same-length-77 c = let t = the tie.After-tell-restart (search) in omega (arith, t .tell-restart .kept)
+
+same-length-78 : tie.Need-same-length-78
+same-length-78 c = let t = the tie.After-tell-restart (search) in omega (arith, t .tell-restart .kept)
+
+same-length-79 : tie.Need-same-length-79
+same-length-79 c = let t = the tie.After-tell-restart (search) in omega (arith, t .tell-restart .kept)
+
+same-length-80 : tie.Need-same-length-80
+same-length-80 c = let t = the tie.After-tell-restart (search) in omega (arith, t .tell-restart .kept)
+
+same-length-81 : tie.Need-same-length-81
+same-length-81 c = let t = the tie.After-tell-restart (search) in omega (arith, t .tell-restart .kept)
+
+same-length-82 : tie.Need-same-length-82
+same-length-82 c = let t = the tie.After-tell-restart (search) in omega (arith, t .tell-restart .kept)
+
+same-length-83 : tie.Need-same-length-83
+same-length-83 c = let t = the tie.After-tell-restart (search) in omega (arith, t .tell-restart .kept)
+
+same-length-84 : tie.Need-same-length-84
+same-length-84 c = let t = the tie.After-tell-restart (search) in omega (arith, t .tell-restart .kept)
 
 returns-7 : tie.Need-returns-7
-returns-7 c = let t = the tie.After-tell-unread (search) in tells-of (unread t .enum-told2 .given .1) (t .tell-unread .ensures _)
+returns-7 c = let t = the tie.After-tell-restart (search) in tells-of (restart t .line6 .given .1) (t .tell-restart .ensures)
+
+same-length-85 : tie.Need-same-length-85
+same-length-85 c = let t = the tie.After-tell-unread (search) in omega (arith, t .tell-unread .kept)
+
+returns-8 : tie.Need-returns-8
+returns-8 c = let t = the tie.After-tell-unread (search) in tells-of (unread t .enum-told2 .given .1) (t .tell-unread .ensures _)
 
 pub answer-spec : {M : Type 1} → statement M
 answer-spec =
@@ -323,8 +371,10 @@ answer-spec =
     enum-known-line-3
     tell-remove-requires
     enum-known-line-4
-    tell-timer-requires
+    tell-under-requires
     enum-known-line-5
+    tell-timer-requires
+    enum-known-line-6
     tell-restart-requires
     enum-told-2
     tell-unread-requires
@@ -407,4 +457,17 @@ answer-spec =
     same-length-72
     returns-6
     same-length-73
-    returns-7)
+    same-length-74
+    same-length-75
+    same-length-76
+    same-length-77
+    same-length-78
+    same-length-79
+    same-length-80
+    same-length-81
+    same-length-82
+    same-length-83
+    same-length-84
+    returns-7
+    same-length-85
+    returns-8)

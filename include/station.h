@@ -38,9 +38,9 @@ extern "C" {
 #endif
 
 #define STATION_VERSION_MAJOR 0
-#define STATION_VERSION_MINOR 2
+#define STATION_VERSION_MINOR 3
 #define STATION_VERSION_PATCH 0
-#define STATION_VERSION "0.2.0"
+#define STATION_VERSION "0.3.0"
 
 /* Ignoring the answer of such a function warns. */
 #if (defined(__cplusplus) && __cplusplus >= 201703L) || (defined(__STDC_VERSION__) && __STDC_VERSION__ > 201710L)
@@ -207,6 +207,17 @@ STATION_CHECKED static inline struct station_answer station_tables_promote(struc
 /* Frees the block and all above it and answers with their number; heads, anchors and counts follow. Refuses 1, 3 and 9. */
 STATION_CHECKED static inline struct station_answer station_tables_remove(struct station_tables *t, uint32_t slot);
 
+/*
+ * Answers with how many blocks hang under this one, itself among them, and writes the highest sequence among them; a null
+ * `highest` asks for the number alone. The count goes from the block to its children and from those to theirs, at most n
+ * levels with its own. On tables reached by calls from fresh ones it is as many as mark_subtree lists. In a damaged table a
+ * block met at several levels counts at each, so that it may be up to n * n - n + 1, and the way down, which is a recursion,
+ * may take some 120 KiB of stack, where the other calls take 6. The tables stay as they are. Refuses 1 and 3, and then
+ * writes nothing.
+ */
+STATION_CHECKED static inline struct station_answer station_tables_under(
+    const struct station_tables *t, uint32_t slot, uint32_t *highest);
+
 /* A block to ask for: the sequence that it should have, and its hash. */
 struct station_request {
     uint32_t sequence;
@@ -368,6 +379,16 @@ STATION_CHECKED uint64_t station_remove(
     uint64_t *requested, size_t requested_len, uint64_t *arrivals, size_t arrivals_len,
     uint8_t *connected, size_t connected_len,
     uint32_t root);
+
+/* The highest sequence is written to highest[0]. */
+STATION_CHECKED uint64_t station_under(
+    const uint8_t *hashes, size_t hashes_len, const uint32_t *parents, size_t parents_len,
+    const uint32_t *sequences, size_t sequences_len, const uint8_t *counts, size_t counts_len,
+    const uint8_t *flags, size_t flags_len,
+    const uint32_t *tips, size_t tips_len, const uint32_t *tails, size_t tails_len,
+    const uint8_t *missing, size_t missing_len, const uint64_t *requested, size_t requested_len,
+    const uint64_t *arrivals, size_t arrivals_len, const uint8_t *connected, size_t connected_len,
+    uint32_t slot, uint32_t *highest, size_t highest_len);
 
 /*
  * `span` ticks where `given` is not 0, else 60. Where a head is asked for, claimed[0] is the sequence of its missing block
@@ -576,6 +597,14 @@ static inline struct station_answer station_tables_promote(struct station_tables
 static inline struct station_answer station_tables_remove(struct station_tables *t, uint32_t slot)
 {
     return station_answered(station_remove(STATION_BUFFERS(t), slot));
+}
+
+static inline struct station_answer station_tables_under(
+    const struct station_tables *t, uint32_t slot, uint32_t *highest)
+{
+    uint32_t none;
+    return station_answered(station_under(
+        STATION_BUFFERS(t), slot, highest != NULL ? highest : &none, highest != NULL ? 1 : 0));
 }
 
 static inline struct station_answer station_tables_timer(

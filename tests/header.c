@@ -158,6 +158,23 @@ static void questions(void)
     assert(station_rank_outranks(&heavy, &light) && !station_rank_outranks(&light, &heavy));
 }
 
+static void under(void)
+{
+    uint32_t *highest = (uint32_t *)bytes(sizeof *highest);
+    assert(gives(station_tables_under(&tables, 0, highest), 2) && *highest == 6);
+    assert(gives(station_tables_under(&tables, 3, highest), 1) && *highest == 7);
+    assert(gives(station_tables_under(&tables, 0, NULL), 2));
+    *highest = 77;
+    assert(refuses(station_tables_under(&tables, 1, highest), STATION_REFUSED_NO_BLOCK) && *highest == 77);
+    assert(refuses(station_tables_under(&tables, BLOCKS, NULL), STATION_REFUSED_NO_BLOCK));
+
+    /* A ring of parents: each of its two blocks is met at every other level of the four. */
+    tables.parents[0] = 2;
+    assert(gives(station_tables_under(&tables, 0, highest), 4) && *highest == 6);
+    tables.parents[0] = STATION_NONE_REF;
+    free(highest);
+}
+
 static void timers(void)
 {
     const uint64_t retry = 5;
@@ -189,6 +206,7 @@ static void refusals(void)
     struct station_tables too_large;
     lend(&too_large, STATION_MOST_BLOCKS + 1, STATION_MOST_HEADS);
     assert(refuses(station_tables_fresh(&too_large), STATION_REFUSED_SHAPE));
+    assert(refuses(station_tables_under(&too_large, STATION_NONE_REF, NULL), STATION_REFUSED_SHAPE));
     give_back(&too_large);
 }
 
@@ -206,6 +224,7 @@ int main(void)
     lend(&tables, BLOCKS, HEADS);
     trial();
     questions();
+    under();
     timers();
     refusals();
     hashes_of_the_tables();

@@ -36,7 +36,8 @@
 //!    work or refuses with one [`Refusal`] and leaves every byte as it stood.
 //! 2. Its answer and what it leaves are those of its rule in `crates/rules/specs`.
 //! 3. After every list of calls from fresh tables the counts, heads and anchors are those worked out
-//!    afresh from the blocks, the active blocks are those promoted, and none was ever freed.
+//!    afresh from the blocks, the active blocks are those promoted, and none was ever freed; and
+//!    [`Tables::under`] counts the blocks that [`Tables::subtree`] lists.
 //!
 //! Not proved, but tested: that this crate declares the archive's functions as they are (`src/raw.rs`),
 //! and the Rust around them, which lends the buffers and reads the answers. [`Tables::heads`],
@@ -44,10 +45,10 @@
 //!
 //! # What a station writes to disk
 //!
-//! [`Tables::to_bytes`] gives all that must outlast the station. Save it after each accepted call but
-//! the timer's, before anyone is told of the answer, and save it whole: write a second file, flush it to
-//! the disk and rename it over the first, so that a crash leaves the old tables or the new ones and
-//! nothing in between. When the station comes up again, [`Tables::from_bytes`] refuses what is not such
+//! [`Tables::to_bytes`] gives all that must outlast the station. Save it after each accepted call that
+//! changes the blocks or the record, which the timer and questions do not, before anyone is told of the
+//! answer, and save it whole: write a second file, flush it to the disk and rename it over the first, so
+//! that a crash leaves the old tables or the new ones and nothing in between. When the station comes up again, [`Tables::from_bytes`] refuses what is not such
 //! bytes, and [`Tables::restart`] comes before all else. Of the bytes the hashes, parents, sequences and
 //! flags of the blocks and the record must come back as one call left them; the counts of blocks and
 //! the heads may be anything. They are the bytes of a store of `include/station.h`.
@@ -76,6 +77,7 @@ mod tables;
 
 pub use records::{
     Anchor, Block, BlockSlot, Hash, Head, HeadSlot, NONE_REF, Rank, Request, Sequence, Status,
+    Under,
 };
 pub use refusal::Refusal;
 pub use tables::{MOST_BLOCKS, MOST_HEADS, Parts, Tables};

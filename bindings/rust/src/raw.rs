@@ -70,6 +70,12 @@ entries! {
         requested: &mut [u64], arrivals: &mut [u64], connected: &mut [u8],
         root: u32
     ) -> u64;
+    fn station_under(
+        hashes: &[u8], parents: &[u32], sequences: &[u32], counts: &[u8],
+        flags: &[u8], tips: &[u32], tails: &[u32], missing: &[u8],
+        requested: &[u64], arrivals: &[u64], connected: &[u8],
+        slot: u32, highest: &mut [u32]
+    ) -> u64;
     fn station_timer(
         hashes: &[u8], parents: &[u32], sequences: &[u32], counts: &[u8],
         flags: &[u8], tips: &[u32], tails: &[u32], missing: &[u8],

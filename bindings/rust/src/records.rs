@@ -128,6 +128,15 @@ pub enum Anchor {
     Tail(BlockSlot),
 }
 
+/// How much hangs under a block.
+#[derive(Debug, Clone, Copy, PartialEq, Eq, Hash)]
+pub struct Under {
+    /// How many blocks, itself among them.
+    pub blocks: usize,
+    /// The highest sequence among them.
+    pub highest: Sequence,
+}
+
 /// A missing block to ask for.
 // In this order the hash is moved as a whole: nothing of another answer lies over its first byte.
 #[derive(Clone, Copy, PartialEq, Eq, Hash)]

@@ -22,7 +22,7 @@ pub enum Refusal {
     Shape = 1,
     /// 2, admit: the block's hash or its previous hash is not exactly 32 bytes.
     HashLength = 2,
-    /// 3, promote and remove: the slot is out of range, or empty.
+    /// 3, promote, remove and under: the slot is out of range, or empty.
     NoBlock = 3,
     /// 4, admit: the sequence is 4,294,967,295, the reserved mark.
     ReservedSequence = 4,
@@ -98,6 +98,8 @@ impl fmt::Display for Refusal {
 impl Error for Refusal {}
 
 /// The lower half of an answer, or the refusal in its upper half.
+// Left out of line it costs each call a nanosecond.
+#[inline]
 pub(crate) fn accepted(answer: u64) -> Result<u32, Refusal> {
     match (answer >> 32) as u32 {
         0 => Ok(answer as u32),

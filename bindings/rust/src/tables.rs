@@ -1,6 +1,6 @@
 use crate::raw::{self, ActiveHead};
 use crate::records::{
-    Anchor, Block, BlockSlot, Hash, Head, HeadSlot, NONE_REF, Request, Sequence, Status,
+    Anchor, Block, BlockSlot, Hash, Head, HeadSlot, NONE_REF, Request, Sequence, Status, Under,
 };
 use crate::refusal::{Refusal, accepted};
 use alloc::{vec, vec::Vec};
@@ -235,6 +235,36 @@ impl Tables {
     /// [`Refusal::NoBlock`] or [`HoldsActive`](Refusal::HoldsActive).
     pub fn remove(&mut self, slot: BlockSlot) -> Result<usize, Refusal> {
         accepted(lend!(&mut self.parts, station_remove, slot.0)).map(|freed| freed as usize)
+    }
+
+    /// How many blocks hang under the one in this slot, itself among them, and the highest sequence
+    /// among them. The count goes from the block to its children and from those to theirs, at most n
+    /// levels with its own.
+    ///
+    /// On tables from [`new`](Tables::new) it is as many as [`subtree`](Tables::subtree) lists. In
+    /// adopted tables that are damaged a block met at several levels counts at each, so that it may be
+    /// up to n * n - n + 1, and the way down, which is a recursion, may take some 120 KiB of stack,
+    /// where the other calls take 6.
+    ///
+    /// # Errors
+    ///
+    /// [`Refusal::NoBlock`].
+    ///
+    /// ```
+    /// use station::{BlockSlot, Refusal, Sequence, Tables, Under};
+    ///
+    /// let mut tables = Tables::new(4, 2)?;
+    /// let pass = tables.admit(Sequence(5), &[0x0a; 32], &[0x09; 32], 1)?;
+    /// tables.admit(Sequence(6), &[0x0b; 32], &[0x0a; 32], 2)?;
+    /// tables.admit(Sequence(6), &[0x0c; 32], &[0x0a; 32], 3)?;
+    /// assert_eq!(tables.under(pass)?, Under { blocks: 3, highest: Sequence(6) });
+    /// assert_eq!(tables.under(BlockSlot(3)), Err(Refusal::NoBlock));
+    /// # Ok::<(), Refusal>(())
+    /// ```
+    pub fn under(&self, slot: BlockSlot) -> Result<Under, Refusal> {
+        let mut highest = [0];
+        let blocks = accepted(lend!(&self.parts, station_under, slot.0, &mut highest))?;
+        Ok(Under { blocks: blocks as usize, highest: Sequence(highest[0]) })
     }
 
     /// Chooses the missing block to be asked for now, if one is due, and notes the time at its head.

@@ -1,6 +1,6 @@
 //! Random lists of calls from fresh tables: what is proved of them, looked at through the crate.
 
-use station::{Anchor, BlockSlot, MOST_BLOCKS, MOST_HEADS, Refusal, Sequence, Tables};
+use station::{Anchor, BlockSlot, MOST_BLOCKS, MOST_HEADS, Refusal, Sequence, Tables, Under};
 use std::collections::HashMap;
 
 /// Numbers that look random, from Knuth's linear congruence.
@@ -70,6 +70,11 @@ fn check(tables: &Tables, promoted: &HashMap<BlockSlot, [u8; 32]>) {
             assert_eq!(usize::from(block.count), children.max(1), "the count of {slot}");
             assert_eq!(tables.head_of(slot).is_some(), children == 0, "the head of {slot}");
         }
+        let listed = tables.subtree(slot);
+        let sequences = listed.iter().filter_map(|&slot| tables.get(slot)).map(|b| b.sequence);
+        let highest = sequences.max().expect("the block itself");
+        let under = Under { blocks: listed.len(), highest };
+        assert_eq!(tables.under(slot), Ok(under), "what hangs under {slot}");
     }
     for (slot, hash) in promoted {
         assert_eq!(tables.get(*slot).map(|block| block.hash), Some(*hash), "promoted: {slot}");

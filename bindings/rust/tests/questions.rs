@@ -1,8 +1,8 @@
 //! The questions, on the tables of the scope's trial, and what is shown of them.
 
 use station::{
-    Anchor, Block, BlockSlot, Head, HeadSlot, MOST_BLOCKS, MOST_HEADS, Rank, Refusal, Request,
-    Sequence, Status, Tables,
+    Anchor, Block, BlockSlot, Head, HeadSlot, MOST_BLOCKS, MOST_HEADS, NONE_REF, Parts, Rank,
+    Refusal, Request, Sequence, Status, Tables, Under,
 };
 use std::cmp::Ordering;
 use std::collections::HashSet;
@@ -77,6 +77,52 @@ fn walks() -> Result<(), Refusal> {
     assert_eq!(tables.locate_anchor(BlockSlot(2)), Anchor::Connection(BlockSlot(0)));
     assert_eq!(tables.locate_anchor(BlockSlot(3)), Anchor::Tail(BlockSlot(3)));
     assert_eq!(tables.locate_anchor(BlockSlot(1)), Anchor::Tail(BlockSlot(1)));
+    Ok(())
+}
+
+/// Tables adopted with blocks of these parents; the block in slot i has sequence i.
+fn with_parents(parents: &[u32]) -> Result<Tables, Refusal> {
+    let fresh = Tables::new(parents.len(), 2)?.into_parts();
+    let sequences = (0..).take(parents.len()).collect();
+    Tables::from_parts(Parts { parents: parents.to_vec(), sequences, ..fresh })
+}
+
+fn hanging(blocks: usize, highest: u32) -> Result<Under, Refusal> {
+    Ok(Under { blocks, highest: Sequence(highest) })
+}
+
+#[test]
+fn what_hangs_under_a_block() -> Result<(), Refusal> {
+    let tables = after_the_trial()?;
+    assert_eq!(tables.under(BlockSlot(0)), hanging(2, 6));
+    assert_eq!(tables.under(BlockSlot(2)), hanging(1, 6));
+    assert_eq!(tables.under(BlockSlot(3)), hanging(1, 7));
+    assert_eq!(tables.under(BlockSlot(1)), Err(Refusal::NoBlock));
+
+    let line = with_parents(&[NONE_REF, 0, 1, 2, 3])?;
+    assert_eq!(line.under(BlockSlot(0)), hanging(5, 4));
+    assert_eq!(line.under(BlockSlot(3)), hanging(2, 4));
+    Ok(())
+}
+
+/// It goes down n levels, and counts a block at each at which it is met.
+#[test]
+fn what_hangs_under_a_block_of_damaged_tables() -> Result<(), Refusal> {
+    let ring = with_parents(&[1, 0, 0, 4, 3])?;
+    assert_eq!(ring.under(BlockSlot(0)), hanging(1 + 2 + 1 + 2 + 1, 2), "0, 1 2, 0, 1 2, 0");
+    assert_eq!(ring.under(BlockSlot(1)), hanging(1 + 1 + 2 + 1 + 2, 2), "1, 0, 1 2, 0, 1 2");
+    assert_eq!(ring.under(BlockSlot(2)), hanging(1, 2));
+    assert_eq!(ring.under(BlockSlot(3)), hanging(5, 4));
+
+    // One that is its own parent, and that of all others: first, between and last among its children.
+    let n = MOST_BLOCKS;
+    let last = n as u32 - 1;
+    for own in [0, 1, last] {
+        let most = with_parents(&vec![own; n])?;
+        assert_eq!(most.under(BlockSlot(own)), hanging(n * n - n + 1, last), "{own}");
+        assert_eq!(most.under(BlockSlot(2)), hanging(1, 2), "{own}");
+    }
+    assert_eq!(with_parents(&[0])?.under(BlockSlot(0)), hanging(1, 0), "one level");
     Ok(())
 }
 
@@ -171,8 +217,10 @@ fn answers_in_a_set() -> Result<(), Refusal> {
     let mut tables = after_the_trial()?;
     let blocks: HashSet<Block> = tables.blocks().map(|(_, block)| block).collect();
     let heads: HashSet<Head> = tables.heads().collect();
+    let under: HashSet<Under> =
+        tables.blocks().filter_map(|(slot, _)| tables.under(slot).ok()).collect();
     let asked: HashSet<Option<Request>> = [tables.timer(30, None)?, None].into();
-    assert_eq!((blocks.len(), heads.len(), asked.len()), (3, 2, 2));
+    assert_eq!((blocks.len(), heads.len(), under.len(), asked.len()), (3, 2, 3, 2));
     Ok(())
 }
 

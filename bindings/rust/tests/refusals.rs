@@ -97,6 +97,7 @@ fn no_block_3() {
     for slot in [0, 3, 4, u32::MAX].map(BlockSlot) {
         assert_eq!(refused(&mut tables, |t| t.promote(slot)), 3, "{slot}");
         assert_eq!(refused(&mut tables, |t| t.remove(slot)), 3, "{slot}");
+        assert_eq!(refused(&mut tables, |t| t.under(slot)), 3, "{slot}");
     }
 }
 

@@ -63,6 +63,10 @@ fn answer(tables: &mut Option<Tables>, line: &str) -> Result<String, Refusal> {
             format!("P {slot}\n")
         }
         ["D", slot] => format!("D {}\n", tables.remove(BlockSlot(number(slot)))?),
+        ["U", slot] => {
+            let under = tables.under(BlockSlot(number(slot)))?;
+            format!("U {} {}\n", under.blocks, under.highest)
+        }
         ["T", now, retry] => match tables.timer(number(now), Some(number(retry)))? {
             Some(due) => format!("T {} {} {:02x}\n", due.head, due.sequence, due.hash[0]),
             None => "T -\n".to_string(),

@@ -4,12 +4,16 @@
 use oracle::calls::{Answer, Call, Reply};
 use oracle::judge;
 use oracle::random::Random;
-use oracle::scripts::Script;
+use oracle::scripts::{Script, asked_slot};
 use oracle::tables::{NONE_REF, Tables};
 use std::fs;
 use std::path::Path;
 
 const SEED: u64 = 1;
+
+/// How many calls in a hundred are followed by a question, which changes nothing. They are drawn by
+/// themselves, so that the calls are the same without them.
+const QUESTIONS: usize = 15;
 
 /// Block slots, head slots and calls of each list.
 const LISTS: [(usize, usize, usize); 22] = [
@@ -40,8 +44,9 @@ const LISTS: [(usize, usize, usize); 22] = [
 fn main() -> std::io::Result<()> {
     let folder = Path::new(env!("CARGO_MANIFEST_DIR")).join("../replay");
     let mut random = Random::new(SEED);
+    let mut questions = Random::new(SEED);
     for (n, m, calls) in LISTS {
-        let (script, printed) = list(&mut random, n, m, calls);
+        let (script, printed) = list(&mut random, &mut questions, n, m, calls);
         let file = folder.join(format!("n{n}_m{m}"));
         fs::write(file.with_extension("trial"), script)?;
         fs::write(file.with_extension("out"), printed)?;
@@ -50,7 +55,13 @@ fn main() -> std::io::Result<()> {
 }
 
 /// The lines of a list's calls, and the lines that it prints.
-fn list(random: &mut Random, n: usize, m: usize, calls: usize) -> (String, String) {
+fn list(
+    random: &mut Random,
+    questions: &mut Random,
+    n: usize,
+    m: usize,
+    calls: usize,
+) -> (String, String) {
     let mut tables = Tables::empty(n, m);
     let mut script = Script::of_lines(random, n);
     let mut lines = format!("N {n} {m}\n");
@@ -64,6 +75,12 @@ fn list(random: &mut Random, n: usize, m: usize, calls: usize) -> (String, Strin
         lines += &format!("{call}\n");
         printed += &format!("{}\n", said(&call, &judge::run(&call, &mut tables)));
         made += 1;
+        if questions.percent(QUESTIONS) {
+            let slot = asked_slot(questions, &tables);
+            let call = Call::Under { slot };
+            lines += &format!("{call}\n");
+            printed += &format!("{}\n", said(&call, &judge::listed(&tables, slot)));
+        }
     }
     (lines, printed + &left(&tables))
 }
@@ -77,6 +94,7 @@ fn has_line(call: &Call) -> bool {
             .iter()
             .all(|hash| hash.first().is_some_and(|&first| ***hash == [first; 32])),
         Call::Promote { .. } | Call::Remove { .. } | Call::Restart { .. } => true,
+        Call::Under { .. } => true,
     }
 }
 
@@ -91,6 +109,7 @@ fn said(call: &Call, reply: &Reply) -> String {
             format!("T {} {} {:02x}", asked.head, asked.claimed, asked.missing[0])
         }
         (_, Ok(Answer::Done)) => "R".to_string(),
+        (_, Ok(Answer::Under(under))) => format!("U {} {}", under.blocks, under.highest),
         (_, Ok(Answer::Due(_) | Answer::Unread(_))) => unreachable!("no line asks for it"),
     }
 }

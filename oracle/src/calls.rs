@@ -1,8 +1,10 @@
-//! The calls of the scope document: what each takes and answers, and its line in the trial program.
+//! The calls of the scope document, and what hangs under a block, which writes nothing and is no call
+//! of a list: what each takes and answers, and its line in the trial program.
 //! Where the trial has no form, it is our own: `N` alone is fresh, `L retry` asks for the earliest
 //! deadline, `-` in place of a retry is none given, and `x` comes before a hash of other bytes.
 
 use crate::tables::Recovery;
+use crate::under::Under;
 use std::fmt;
 
 #[derive(Debug, Clone, PartialEq, Eq)]
@@ -14,6 +16,7 @@ pub enum Call {
     Timer { now: u64, span: Option<u64> },
     Deadline { span: Option<u64> },
     Restart { now: u64 },
+    Under { slot: u32 },
 }
 
 #[derive(Debug, Clone, Copy, PartialEq, Eq)]
@@ -22,6 +25,7 @@ pub enum Answer {
     Freed(u32),
     Asked(Option<Recovery>),
     Due(Option<u64>),
+    Under(Under),
     Done,
     /// What the port returned where it is none of the call's answers.
     Unread(u64),
@@ -33,8 +37,8 @@ pub type Refusal = u8;
 pub type Reply = Result<Answer, Refusal>;
 
 impl Call {
-    pub const NAMES: [&str; 7] =
-        ["fresh", "admit", "promote", "remove", "timer", "deadline", "restart"];
+    pub const NAMES: [&str; 8] =
+        ["fresh", "admit", "promote", "remove", "timer", "deadline", "restart", "under"];
 
     /// The place of the call's name.
     pub fn kind(&self) -> usize {
@@ -46,6 +50,7 @@ impl Call {
             Call::Timer { .. } => 4,
             Call::Deadline { .. } => 5,
             Call::Restart { .. } => 6,
+            Call::Under { .. } => 7,
         }
     }
 
@@ -65,6 +70,7 @@ impl Call {
             ["T", now, span] => Call::Timer { now: now.parse().ok()?, span: read_span(span)? },
             ["L", span] => Call::Deadline { span: read_span(span)? },
             ["R", now] => Call::Restart { now: now.parse().ok()? },
+            ["U", slot] => Call::Under { slot: slot.parse().ok()? },
             _ => return None,
         })
     }
@@ -82,6 +88,7 @@ impl fmt::Display for Call {
             Call::Timer { now, span } => write!(f, "T {now} {}", span_word(*span)),
             Call::Deadline { span } => write!(f, "L {}", span_word(*span)),
             Call::Restart { now } => write!(f, "R {now}"),
+            Call::Under { slot } => write!(f, "U {slot}"),
         }
     }
 }

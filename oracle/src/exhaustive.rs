@@ -87,6 +87,7 @@ impl Alphabet {
         };
         let fresh = Reached::fresh(self.n, self.m).map_err(|_| list(&[]))?;
         tally.note(&Call::Fresh, &Ok(Answer::Done), &fresh.tables, &fresh.tables);
+        tally.note_asked(&fresh.ask().map_err(|_| list(&[]))?);
         let mut met = HashSet::from([fresh.tables.clone()]);
         let mut level = vec![(Vec::new(), fresh)];
         for length in 1..=self.longest {
@@ -96,7 +97,12 @@ impl Alphabet {
                     let places = [places.as_slice(), &[at as u8]].concat();
                     let (reply, after) = reached.after(call).map_err(|_| list(&places))?;
                     tally.note(call, &reply, &reached.tables, &after.tables);
-                    if length < self.longest && !met.contains(&after.tables) {
+                    if met.contains(&after.tables) {
+                        continue;
+                    }
+                    let asked = after.ask().map_err(|_| list(&places))?;
+                    tally.note_asked(&asked);
+                    if length < self.longest {
                         met.insert(after.tables.clone());
                         next.push((places, after));
                     }

@@ -494,7 +494,7 @@ fn one_of<'a, T>(r: &mut Random, cells: &'a mut [T]) -> &'a mut T {
 }
 
 /// Tables of arbitrary fields.
-fn arbitrary(r: &mut Random, n: usize, m: usize) -> Tables {
+pub(crate) fn arbitrary(r: &mut Random, n: usize, m: usize) -> Tables {
     let mut t = Tables::empty(n, m);
     let base = any_hash(r);
     t.hashes.chunks_exact_mut(32).for_each(|hash| hash.copy_from_slice(&base));

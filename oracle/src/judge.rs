@@ -1,10 +1,12 @@
 //! The original's side of the calls, put together from its functions as the scope document says.
-//! The refusals are read off that document too, in its order.
+//! The refusals are read off that document too, in its order. What hangs under a block is a model's,
+//! and on tables that calls have reached the original's too.
 
 use crate::buffers::BUFFERS;
 use crate::calls::{Answer, Call, Refusal, Reply};
 use crate::original::*;
 use crate::tables::{Block, BlockStatus, Hash, Head, NONE_REF, Tables};
+use crate::under::{Under, under};
 
 /// The retry span of a call that gives none.
 const TICKS: u64 = 60;
@@ -42,7 +44,17 @@ pub fn run(call: &Call, t: &mut Tables) -> Reply {
             rebuild_from_blocks(t, now);
             Ok(Answer::Done)
         }
+        Call::Under { slot } => under(t, slot).map(Answer::Under).ok_or(3),
     }
+}
+
+/// What hangs under a slot of tables that calls have reached, by the original's own list, which is
+/// empty where no block is.
+pub fn listed(t: &Tables, slot: u32) -> Reply {
+    let (blocks, slots) = mark_subtree(t, slot);
+    let sequences = slots[..blocks].iter().map(|&slot| t.sequences[slot as usize]);
+    let highest = sequences.max().ok_or(3)?;
+    Ok(Answer::Under(Under { blocks: blocks as u32, highest }))
 }
 
 /// Whether the slots are as many as they may be and every buffer fits them.

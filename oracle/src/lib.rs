@@ -5,6 +5,7 @@
 compile_error!("the judge is a release build: cargo run --release");
 
 pub mod args;
+pub mod beneath;
 pub mod buffers;
 pub mod calls;
 pub mod exhaustive;
@@ -17,6 +18,7 @@ pub mod modes;
 pub mod port;
 pub mod promises;
 pub mod random;
+pub mod rings;
 pub mod scripts;
 pub mod shorten;
 pub mod show;
@@ -25,6 +27,7 @@ pub mod single;
 pub mod station;
 pub mod tables;
 pub mod tally;
+pub mod under;
 
 mod entries;
 mod sizes;

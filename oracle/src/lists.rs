@@ -1,5 +1,6 @@
 //! Lists of calls from fresh tables: each call runs on both sides on the same tables, the answers,
-//! every byte of the tables and the record must agree, and then the promises must hold.
+//! every byte of the tables and the record must agree, and then the promises must hold, and the port
+//! must say of the slots what the original lists under them.
 
 use crate::calls::{Call, Reply};
 use crate::functions::{Difference, compare};
@@ -24,12 +25,19 @@ pub enum Trouble {
         after: Box<Tables>,
         why: String,
     },
+    /// The port does not say of this slot of the tables what the original lists under it.
+    Under {
+        slot: u32,
+        found: Box<Difference>,
+    },
 }
 
 /// Tables that a list has reached on both sides alike.
 pub struct Reached {
     pub tables: Tables,
     ledger: Ledger,
+    /// How many calls the list has.
+    length: usize,
 }
 
 impl Reached {
@@ -40,7 +48,7 @@ impl Reached {
         let (_, tables) = both(&Call::Fresh, &before).map_err(Trouble::Differs)?;
         match ledger.holds(&tables) {
             Err(why) => Err(Trouble::broken(before, tables, why)),
-            Ok(()) => Ok(Reached { tables, ledger }),
+            Ok(()) => Ok(Reached { tables, ledger, length: 0 }),
         }
     }
 
@@ -50,8 +58,35 @@ impl Reached {
         let mut ledger = self.ledger.clone();
         match ledger.check(call, &reply, &self.tables, &tables) {
             Err(why) => Err(Trouble::broken(self.tables.clone(), tables, why)),
-            Ok(()) => Ok((reply, Reached { tables, ledger })),
+            Ok(()) => Ok((reply, Reached { tables, ledger, length: self.length + 1 })),
         }
+    }
+
+    /// What the port says of the slots: it is what the original lists under each.
+    pub fn ask(&self) -> Result<Vec<(Call, Reply)>, Trouble> {
+        let ask = |slot| {
+            let call = Call::Under { slot };
+            match compare(&self.tables, |t| judge::listed(t, slot), |t| station::run(&call, t)) {
+                Err(found) => Err(Trouble::Under { slot, found }),
+                Ok((reply, _)) => Ok((call, reply)),
+            }
+        };
+        self.asked().map(ask).collect()
+    }
+
+    /// The slots to ask for, the first beyond the table among them. The original's lists take long
+    /// on large tables; there they are some of the slots, and others after the next call.
+    fn asked(&self) -> impl Iterator<Item = u32> {
+        let slots = self.tables.n() + 1;
+        let every = match slots {
+            0..=13 => 1,
+            14..=34 => 3,
+            35..=65 => 11,
+            66..=257 => 499,
+            _ => 16_001,
+        };
+        let before = self.length * slots;
+        (0..slots).filter(move |slot| (before + slot).is_multiple_of(every)).map(|slot| slot as u32)
     }
 }
 
@@ -64,14 +99,15 @@ impl Trouble {
 impl List {
     /// The first trouble, and how many calls the list has up to it.
     pub fn trouble(&self) -> Option<(usize, Trouble)> {
-        let mut reached = match Reached::fresh(self.n, self.m) {
+        let asked = |reached: Reached| reached.ask().map(|_| reached);
+        let mut reached = match Reached::fresh(self.n, self.m).and_then(asked) {
             Err(trouble) => return Some((0, trouble)),
             Ok(reached) => reached,
         };
         for (call, length) in self.calls.iter().zip(1..) {
-            reached = match reached.after(call) {
+            reached = match reached.after(call).and_then(|(_, next)| asked(next)) {
                 Err(trouble) => return Some((length, trouble)),
-                Ok((_, next)) => next,
+                Ok(next) => next,
             };
         }
         None

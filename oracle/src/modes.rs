@@ -1,15 +1,17 @@
 //! What `compare` runs. Each mode prints what it has compared and gives the number of calls; the
 //! error is the smallest difference found, in readable form.
 
+use crate::args::Args;
 use crate::calls::{Answer, Call};
 use crate::exhaustive::ALPHABETS;
 use crate::functions::{Case, FUNCTIONS};
 use crate::lists::{List, Reached, Trouble, both};
 use crate::random::Random;
 use crate::scripts::{self, Script};
-use crate::single::SINGLES;
+use crate::single::{self, SINGLES, Single};
+use crate::tables::Tables;
 use crate::tally::Tally;
-use crate::{generate, shorten, show, shrink};
+use crate::{generate, rings, shorten, show, shrink};
 use std::time::{Duration, Instant};
 
 /// The seed of the random modes, and how many rounds each makes.
@@ -24,8 +26,13 @@ pub type Compared = Result<u64, String>;
 /// A mode by its name.
 pub type Mode = (&'static str, fn(&Bounds) -> Compared);
 
-pub const MODES: [Mode; 4] =
-    [("functions", functions), ("exhaustive", exhaustive), ("lists", lists), ("damaged", damaged)];
+pub const MODES: [Mode; 5] = [
+    ("functions", functions),
+    ("exhaustive", exhaustive),
+    ("lists", lists),
+    ("damaged", damaged),
+    ("under", under),
+];
 
 impl Bounds {
     fn random(&self) -> Random {
@@ -117,14 +124,22 @@ fn random_list(random: &mut Random, tally: &mut Tally) -> Result<(), List> {
     let Ok(mut reached) = Reached::fresh(n, m) else {
         return Err(list);
     };
+    let Ok(asked) = reached.ask() else {
+        return Err(list);
+    };
     tally.note(&Call::Fresh, &Ok(Answer::Done), &reached.tables, &reached.tables);
+    tally.note_asked(&asked);
     for _ in 0..length {
         let call = script.next(random, &reached.tables);
         list.calls.push(call.clone());
         let Ok((reply, next)) = reached.after(&call) else {
             return Err(list);
         };
+        let Ok(asked) = next.ask() else {
+            return Err(list);
+        };
         tally.note(&call, &reply, &reached.tables, &next.tables);
+        tally.note_asked(&asked);
         reached = next;
     }
     Ok(())
@@ -132,27 +147,69 @@ fn random_list(random: &mut Random, tally: &mut Tally) -> Result<(), List> {
 
 /// A round is one random table and two of each call on it.
 fn damaged(bounds: &Bounds) -> Compared {
+    singles(bounds, 100_000, |random, _| {
+        let tables = generate::tables(random);
+        let twice = SINGLES.iter().flat_map(|single| [single; 2]);
+        let calls = twice.map(|single| (single, generate::args(random, &tables))).collect();
+        (tables, calls)
+    })
+}
+
+/// A round is one random table of any size, and what hangs under its slots, or under some.
+fn under(bounds: &Bounds) -> Compared {
+    let single = single::named("under");
+    singles(bounds, 10_000, |random, round| {
+        let tables = rings::tables(random, round);
+        let slots = rings::slots(random, &tables);
+        let mut args = |slot| Args { slot, ..generate::args(random, &tables) };
+        let calls = slots.into_iter().map(|slot| (single, args(slot))).collect();
+        (tables, calls)
+    })
+}
+
+/// Single calls with what each is given.
+type Singles = Vec<(&'static Single, Args)>;
+
+/// A round is what is drawn: tables, and calls on them.
+fn singles(
+    bounds: &Bounds,
+    rounds: u64,
+    draw: impl Fn(&mut Random, u64) -> (Tables, Singles),
+) -> Compared {
     let mut random = bounds.random();
     let mut tally = Tally::default();
     let mut tables_made = 0;
-    for round in bounds.rounds(100_000) {
-        let tables = generate::tables(&mut random);
-        for single in SINGLES {
-            for _ in 0..2 {
-                let args = generate::args(&mut random, &tables);
-                let (call, lent) = ((single.call)(&args), args.lend(&tables));
-                let Ok((reply, after)) = both(&call, &lent) else {
-                    let case = Case { function: &single.function, tables, args };
-                    return Err(smallest_case(case, bounds.seed, round));
-                };
-                tally.note(&call, &reply, &lent, &after);
-            }
+    for round in bounds.rounds(rounds) {
+        let (tables, calls) = draw(&mut random, round);
+        for (single, args) in calls {
+            compare_single(single, &tables, args, &mut tally)
+                .map_err(|case| smallest_case(*case, bounds.seed, round))?;
         }
         tables_made += 1;
     }
     print!("{tally}");
     println!("  {tables_made} tables");
     Ok(tally.calls())
+}
+
+/// The error is the case, which differs.
+fn compare_single(
+    single: &'static Single,
+    tables: &Tables,
+    args: Args,
+    tally: &mut Tally,
+) -> Result<(), Box<Case>> {
+    let (call, lent) = ((single.call)(&args), args.lend(tables));
+    match both(&call, &lent) {
+        Ok((reply, after)) => {
+            tally.note(&call, &reply, &lent, &after);
+            Ok(())
+        }
+        Err(_) => {
+            let tables = tables.clone();
+            Err(Box::new(Case { function: &single.function, tables, args }))
+        }
+    }
 }
 
 fn smallest_case(case: Case, seed: u64, round: u64) -> String {
@@ -172,7 +229,7 @@ fn shortest_list(list: List, origin: &str) -> String {
     let (calls, n, m) = (list.calls.len(), list.n, list.m);
     let (short, trouble) = shorten::shorten(list);
     let what = match trouble {
-        Trouble::Differs(_) => "DIFFERENCE",
+        Trouble::Differs(_) | Trouble::Under { .. } => "DIFFERENCE",
         Trouble::Broken { .. } => "BROKEN PROMISE",
     };
     format!(

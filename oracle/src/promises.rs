@@ -65,7 +65,8 @@ impl Ledger {
             (Call::Remove { .. }, Answer::Freed(_))
             | (Call::Timer { .. }, Answer::Asked(_))
             | (Call::Deadline { .. }, Answer::Due(_))
-            | (Call::Restart { .. }, Answer::Done) => {}
+            | (Call::Restart { .. }, Answer::Done)
+            | (Call::Under { .. }, Answer::Under(_)) => {}
             _ => return Err("the answer is not one of the call's".to_string()),
         }
         Ok(())

@@ -303,6 +303,12 @@ fn next_active(r: &mut Random, t: &Tables) -> u32 {
     if next.is_empty() { any_slot(r, t.n()) } else { r.pick(&next) as u32 }
 }
 
+/// A slot to ask for between the calls of a list, mostly an occupied one.
+pub fn asked_slot(r: &mut Random, t: &Tables) -> u32 {
+    let slot = occupied_slot(r, t).filter(|_| r.percent(85));
+    slot.unwrap_or_else(|| any_slot(r, t.n()))
+}
+
 /// Mostly an occupied slot, and of large tables a tip.
 fn removed(r: &mut Random, t: &Tables) -> u32 {
     let tip = t.tips[r.below(t.m())];

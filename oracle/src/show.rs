@@ -1,5 +1,6 @@
 //! A difference in readable form.
 
+use crate::calls::Call;
 use crate::functions::{Case, Difference};
 use crate::judge::is_shaped;
 use crate::lists::{List, Trouble};
@@ -11,15 +12,23 @@ pub fn difference(case: &Case, found: &Difference) -> String {
     let taken = taken.iter().filter(|(name, _)| case.function.takes.contains(name));
     let taken: Vec<String> = taken.map(|(name, value)| format!("{name} {value}")).collect();
     let call = format!("{}({})", case.function.name, taken.join(", "));
-    format!("{call}\n\n{}", sides(&case.tables, found))
+    let judge = if case.function.name == "under" { "the model" } else { "the original" };
+    format!("{call}\n\n{}", sides(&case.tables, found, judge))
 }
 
-/// A list up to its trouble, the tables before the last call, and what that call left.
+/// A list up to its trouble, the tables before the last call, and what that call left. What was
+/// asked after the list counts as a call.
 pub fn list(list: &List, trouble: &Trouble) -> String {
-    let calls = list.calls.iter().map(|call| format!("\n{call}"));
+    let asked = match trouble {
+        Trouble::Under { slot, .. } => Some(Call::Under { slot: *slot }),
+        _ => None,
+    };
+    let calls = list.calls.iter().chain(&asked).map(|call| format!("\n{call}"));
     let calls = format!("N {} {}{}", list.n, list.m, calls.collect::<String>());
     let last = match trouble {
-        Trouble::Differs(found) => sides(&found.before, found),
+        Trouble::Differs(found) | Trouble::Under { found, .. } => {
+            sides(&found.before, found, "the original")
+        }
         Trouble::Broken { before, after, why } => {
             let left = changes(before, after);
             format!("{}\n\nboth sides leave{left}\n\nbroken: {why}", before_it(before))
@@ -32,11 +41,11 @@ fn before_it(before: &Tables) -> String {
     format!("before\n{}", lines(before).join("\n"))
 }
 
-fn sides(shown: &Tables, found: &Difference) -> String {
+fn sides(shown: &Tables, found: &Difference, judge: &str) -> String {
     format!(
         "{}\n{}\n{}",
         before_it(shown),
-        side("the original", &found.before, &found.original),
+        side(judge, &found.before, &found.original),
         side("the port", &found.before, &found.port),
     )
 }

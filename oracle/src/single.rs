@@ -41,7 +41,13 @@ pub static SINGLES: &[Single] = &[
     single!(timer(now, span), |args| Call::Timer { now: args.now, span: args.span }),
     single!(deadline(span), |args| Call::Deadline { span: args.span }),
     single!(restart(now), |args| Call::Restart { now: args.now }),
+    single!(under(slot), |args| Call::Under { slot: args.slot }),
 ];
+
+/// The call of this name.
+pub fn named(name: &str) -> &'static Single {
+    SINGLES.iter().find(|single| single.function.name == name).expect("a call's name")
+}
 
 fn of_length(hash: &[u8], length: usize) -> Vec<u8> {
     hash.iter().copied().cycle().take(length).collect()

@@ -4,6 +4,7 @@
 use crate::calls::{Answer, Call, Refusal, Reply};
 use crate::entries::{call, entries};
 use crate::tables::{NONE_REF, Recovery, SPARE, Tables};
+use crate::under::Under;
 
 /// The caller's record.
 #[repr(C)]
@@ -21,6 +22,7 @@ entries! {
     station_timer([all], u64, u32, u64, [mut u32], [mut u8]) -> u64;
     station_earliest_deadline([all], u32, u64, [mut u64]) -> u64;
     station_restart([all], u32, u64) -> u64;
+    station_under([all], u32, [mut u32]) -> u64;
 }
 
 /// What each byte of a place for an answer holds before the call.
@@ -48,6 +50,7 @@ pub fn run(call: &Call, t: &mut Tables) -> Reply {
             let active = t.active;
             read(call!(station_restart([all t], active, now)), done)
         }
+        Call::Under { slot } => under(t, slot),
     }
 }
 
@@ -99,6 +102,19 @@ fn deadline(t: &mut Tables, span: Option<u64>) -> Reply {
         _ => None,
     });
     if reply.is_err() && !kept { Ok(Answer::Unread(answer)) } else { reply }
+}
+
+/// The highest sequence is written to the first place where the call is accepted, and only there.
+/// With no place the answer is the same.
+fn under(t: &mut Tables, slot: u32) -> Reply {
+    let mut places = [SPARE; 2];
+    let mut none: [u32; 0] = [];
+    let answer = call!(station_under([all t], slot, [mut places]));
+    let alone = call!(station_under([all t], slot, [mut none]));
+    let [highest, next] = places;
+    let reply = read(answer, |blocks| Some(Answer::Under(Under { blocks, highest })));
+    let kept = next == SPARE && (reply.is_ok() || highest == SPARE);
+    if kept && alone == answer { reply } else { Ok(Answer::Unread(answer)) }
 }
 
 /// Whether a span is given, and the span. One that is not given is a number that would be noticed.

@@ -1,6 +1,7 @@
 //! How many calls were compared, by kind and reply, and what they met on the way: a reader sees
 //! that they are not trivial.
 
+use crate::beneath::Beneath;
 use crate::calls::{Answer, Call, Reply};
 use crate::tables::{NONE_REF, Tables};
 use std::fmt;
@@ -12,10 +13,11 @@ pub struct Tally {
     accepted: [u64; KINDS],
     refused: [[u64; 10]; KINDS],
     met: Met,
+    beneath: Beneath,
 }
 
 /// What accepted calls did.
-#[derive(Default)]
+#[derive(Default, PartialEq)]
 struct Met {
     /// Admits that freed another block, those of them with 64 heads, admits that freed their own,
     /// and restarts that freed one.
@@ -37,18 +39,35 @@ struct Met {
 
 impl Tally {
     pub fn note(&mut self, call: &Call, reply: &Reply, before: &Tables, after: &Tables) {
-        match reply {
-            Ok(answer) => {
-                self.accepted[call.kind()] += 1;
-                self.met.note(call, answer, before, after);
+        self.count(call, reply);
+        match (call, reply) {
+            (Call::Under { slot }, Ok(Answer::Under(under))) => {
+                self.beneath.note(before, *slot, under.blocks);
             }
+            (_, Ok(answer)) => self.met.note(call, answer, before, after),
+            _ => {}
+        }
+    }
+
+    /// What was asked on tables that calls have reached, where no damage is met.
+    pub fn note_asked(&mut self, asked: &[(Call, Reply)]) {
+        asked.iter().for_each(|(call, reply)| self.count(call, reply));
+    }
+
+    fn count(&mut self, call: &Call, reply: &Reply) {
+        match reply {
+            Ok(_) => self.accepted[call.kind()] += 1,
             Err(number) => self.refused[call.kind()][usize::from(*number)] += 1,
         }
     }
 
     /// All calls.
     pub fn calls(&self) -> u64 {
-        self.accepted.iter().chain(self.refused.iter().flatten()).sum()
+        (0..KINDS).map(|kind| self.made(kind)).sum()
+    }
+
+    fn made(&self, kind: usize) -> u64 {
+        self.accepted[kind] + self.refused[kind].iter().sum::<u64>()
     }
 }
 
@@ -81,14 +100,21 @@ impl Met {
 
 impl fmt::Display for Tally {
     fn fmt(&self, f: &mut fmt::Formatter) -> fmt::Result {
-        for (kind, name) in Call::NAMES.iter().enumerate() {
+        let made = |(kind, _): &(usize, _)| self.made(*kind) > 0;
+        for (kind, name) in Call::NAMES.iter().enumerate().filter(made) {
             write!(f, "  {name:<10}accepted {:>9}", self.accepted[kind])?;
             for (number, times) in self.refused[kind].iter().enumerate().filter(|(_, n)| **n > 0) {
                 write!(f, "   refused by {number}: {times}")?;
             }
             writeln!(f)?;
         }
-        write!(f, "{}", self.met)
+        if self.met != Met::default() {
+            write!(f, "{}", self.met)?;
+        }
+        if self.beneath != Beneath::default() {
+            write!(f, "{}", self.beneath)?;
+        }
+        Ok(())
     }
 }
 

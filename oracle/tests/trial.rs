@@ -47,6 +47,7 @@ fn each_call_has_a_line() {
         "L 5",
         "L -",
         "R 9",
+        "U 3",
     ];
     for line in lines {
         assert_eq!(Call::read(line).map(|call| call.to_string()), Some(line.to_string()));

@@ -22,6 +22,13 @@ pub struct Asked {
     pub missing: Hash,
 }
 
+/// How many blocks hang under a slot, and the highest sequence among them.
+#[derive(Debug, PartialEq, Eq)]
+pub struct Under {
+    pub blocks: u32,
+    pub highest: u32,
+}
+
 /// The original or the port, with its tables and the record.
 pub trait Side {
     fn fresh(&mut self) -> Result<(), Refusal>;
@@ -31,6 +38,7 @@ pub trait Side {
     fn timer(&mut self, now: u64, span: Option<u64>) -> Result<Option<Asked>, Refusal>;
     fn deadline(&mut self, span: Option<u64>) -> Result<Option<u64>, Refusal>;
     fn restart(&mut self, now: u64) -> Result<(), Refusal>;
+    fn under(&mut self, slot: u32) -> Result<Under, Refusal>;
 
     /// Takes the tables and the record of the other.
     fn restore(&mut self, from: &Self);
@@ -43,6 +51,7 @@ pub enum Answer {
     Number(u32),
     Asked(Option<Asked>),
     Due(Option<u64>),
+    Under(Under),
 }
 
 impl From<()> for Answer {
@@ -66,6 +75,12 @@ impl From<Option<Asked>> for Answer {
 impl From<Option<u64>> for Answer {
     fn from(time: Option<u64>) -> Answer {
         Answer::Due(time)
+    }
+}
+
+impl From<Under> for Answer {
+    fn from(under: Under) -> Answer {
+        Answer::Under(under)
     }
 }
 
@@ -98,6 +113,7 @@ pub enum List {
     Timer(Vec<(u64, Option<u64>)>),
     Deadline(Vec<Option<u64>>),
     Restart(Vec<u64>),
+    Under(Vec<u32>),
 }
 
 impl List {
@@ -105,7 +121,7 @@ impl List {
         match self {
             List::Fresh(times) => *times,
             List::Admit(calls) => calls.len(),
-            List::Promote(slots) | List::Remove(slots) => slots.len(),
+            List::Promote(slots) | List::Remove(slots) | List::Under(slots) => slots.len(),
             List::Timer(calls) => calls.len(),
             List::Deadline(spans) => spans.len(),
             List::Restart(times) => times.len(),
@@ -131,6 +147,7 @@ impl List {
             List::Restart(calls) => {
                 calls.iter().for_each(|c| taker.take(side.restart(black_box(*c))))
             }
+            List::Under(calls) => calls.iter().for_each(|c| taker.take(side.under(black_box(*c)))),
         }
     }
 

@@ -17,7 +17,7 @@ pub struct Kind {
     pub at: fn(usize, usize) -> Option<Case>,
 }
 
-pub const KINDS: [Kind; 16] = [
+pub const KINDS: [Kind; 19] = [
     Kind { name: "admit: extend", at: extend },
     Kind { name: "admit: fork", at: fork },
     Kind { name: "admit: full heads, one evicted", at: evict },
@@ -29,6 +29,9 @@ pub const KINDS: [Kind; 16] = [
     Kind { name: "remove: leaf", at: leaf },
     Kind { name: "remove: leaf, bushy tree", at: bushy_leaf },
     Kind { name: "remove: deep subtree", at: subtree },
+    Kind { name: "under: whole tree", at: under_tree },
+    Kind { name: "under: deep subtree", at: under_subtree },
+    Kind { name: "under: leaf", at: under_leaf },
     Kind { name: "timer", at: timer },
     Kind { name: "deadline", at: deadline },
     Kind { name: "restart", at: restart },
@@ -135,20 +138,22 @@ fn promote(n: usize, m: usize) -> Option<Case> {
     case(&shape, List::Promote(next.take(some(n)).collect()))
 }
 
-fn leaves(shape: &Shape) -> Option<Case> {
-    case(shape, List::Remove(shape.leaves().take(4).map(|node| node.slot).collect()))
+fn leaves(shape: &Shape) -> Vec<u32> {
+    shape.leaves().take(4).map(|node| node.slot).collect()
 }
 
 fn leaf(n: usize, m: usize) -> Option<Case> {
-    leaves(&Shape::long(n, m))
+    let shape = Shape::long(n, m);
+    case(&shape, List::Remove(leaves(&shape)))
 }
 
 fn bushy_leaf(n: usize, m: usize) -> Option<Case> {
-    leaves(&Shape::bushy(n, m))
+    let shape = Shape::bushy(n, m);
+    case(&shape, List::Remove(leaves(&shape)))
 }
 
-/// Half of the blocks go: a chain upon an active block, with branches upon the chain.
-fn subtree(n: usize, m: usize) -> Option<Case> {
+/// Half of the blocks hang under one: a chain upon an active block, with branches upon the chain.
+fn deep(n: usize, m: usize) -> (Shape, u32) {
     let mut shape = Shape::long(n / 2, m / 2);
     let below = shape.trunk[shape.active - 1];
     let chain = shape.tree.chain(&below, n / 4);
@@ -156,7 +161,28 @@ fn subtree(n: usize, m: usize) -> Option<Case> {
     for k in 0..branches {
         shape.tree.chain(&chain[(k + 1) * chain.len() / 2 / branches], n / 4 / branches);
     }
-    case(&shape, List::Remove(vec![chain[0].slot]))
+    (shape, chain[0].slot)
+}
+
+fn subtree(n: usize, m: usize) -> Option<Case> {
+    let (shape, root) = deep(n, m);
+    case(&shape, List::Remove(vec![root]))
+}
+
+/// All but the branches that have no parent hang under the chain's first block.
+pub fn under_tree(n: usize, m: usize) -> Option<Case> {
+    let shape = Shape::long(n, m);
+    case(&shape, List::Under(vec![shape.trunk[0].slot; 4]))
+}
+
+fn under_subtree(n: usize, m: usize) -> Option<Case> {
+    let (shape, root) = deep(n, m);
+    case(&shape, List::Under(vec![root; 4]))
+}
+
+fn under_leaf(n: usize, m: usize) -> Option<Case> {
+    let shape = Shape::long(n, m);
+    case(&shape, List::Under(leaves(&shape)))
 }
 
 /// So many timer calls, each of which has a head to ask for.

@@ -14,13 +14,15 @@ mod stack;
 mod stand_ins;
 mod stats;
 mod tree;
+mod under;
 
 use cases::Kind;
 use plan::Plan;
-use report::Line;
-use sizes::{SIZES, Who};
+use report::{Depths, Line};
+use sizes::{SIZES, Size, Who};
 use stand_ins::{api, staged_validation};
 use std::{env, process};
+use under::HEADS;
 
 include!(concat!(env!("OUT_DIR"), "/modules.rs"));
 
@@ -65,6 +67,7 @@ fn compare(plan: &Plan) {
     println!("\n### Growth with n\n");
     println!("The least time at m = 16 as a multiple of that at a quarter of the block slots.\n");
     report::growth(&lines, 16);
+    under_a_block(plan);
     println!("\n### Memory\n");
     let rust = (blocks::timed::BLOCK_BYTES, chain_heads::timed::HEAD_BYTES);
     report::memory(rust, (port::BLOCK_BYTES, port::HEAD_BYTES));
@@ -73,12 +76,41 @@ fn compare(plan: &Plan) {
     report::stacks(&stacks(plan));
 }
 
+/// What hangs under a block, on the port alone, at each n.
+fn under_a_block(plan: &Plan) {
+    let kinds: Vec<&Kind> = plan.kinds().filter(asks_under).collect();
+    let sizes: Vec<&Size> = plan.sizes().filter(|size| size.m == HEADS).collect();
+    if kinds.is_empty() || sizes.is_empty() {
+        return;
+    }
+    let beside = |kind: &&'static Kind| {
+        let at = |size: &&Size| under::beside_marking(size.case(kind)?, size.n, plan.effort);
+        Some((kind.name, sizes.iter().map(at).collect::<Option<_>>()?))
+    };
+    let visits = |size: &&Size| under::visits(size.n, plan.effort);
+    println!("\n### Under a block\n");
+    println!("The port's own marking and `under`, nanoseconds a call, m = {HEADS}.\n");
+    report::beside_marking(&sizes, &kinds.iter().filter_map(beside).collect::<Vec<_>>());
+    println!("\nNanoseconds a visit.\n");
+    report::visits(&sizes.iter().filter_map(visits).collect::<Vec<_>>());
+}
+
+fn asks_under(kind: &&'static Kind) -> bool {
+    kind.name.starts_with("under")
+}
+
 /// The stacks of both sides at the smallest and at the largest size.
-fn stacks(plan: &Plan) -> Vec<(&'static str, [(usize, usize); 2])> {
+fn stacks(plan: &Plan) -> Vec<Depths> {
     let ends = [&SIZES[0], &SIZES[SIZES.len() - 1]];
     let of = |kind: &'static Kind| {
         let both = ends.map(|size| size.case(kind).map(|case| (size.stack)(&case)));
-        Some((kind.name, [both[0]?, both[1]?]))
+        let [(rust, port), (most_rust, most_port)] = [both[0]?, both[1]?];
+        Some(Depths { name: kind.name, rust: Some([rust, most_rust]), port: [port, most_port] })
     };
-    plan.kinds().filter_map(of).collect()
+    let worst = |_| Depths {
+        name: "under: worst table",
+        rust: None,
+        port: ends.map(|size| under::worst_stack(size.n, size.m)),
+    };
+    plan.kinds().filter_map(of).chain(plan.kinds().find(asks_under).map(worst)).collect()
 }

@@ -39,10 +39,15 @@ impl<S: Side> Pair<S> {
 
     fn time(&mut self, list: &List, clock: Duration) -> f64 {
         let side = self.restored();
-        let start = Instant::now();
-        list.run(side, &mut Unread);
-        start.elapsed().saturating_sub(clock).as_nanos() as f64 / list.len() as f64
+        timed(list.len(), clock, || list.run(side, &mut Unread))
     }
+}
+
+/// Nanoseconds of each of so many calls.
+pub fn timed(calls: usize, clock: Duration, act: impl FnOnce()) -> f64 {
+    let start = Instant::now();
+    act();
+    start.elapsed().saturating_sub(clock).as_nanos() as f64 / calls as f64
 }
 
 /// Both sides start and end with the same tables, and reply the same.
@@ -63,23 +68,33 @@ pub fn measure<A: Side, B: Side>(
     effort: Effort,
 ) -> Times {
     let clock = clock();
-    let mut times = Times { rust: Vec::new(), port: Vec::new() };
+    let (rust, port) = in_turn(effort, || rust.time(list, clock), || port.time(list, clock));
+    Times { rust, port }
+}
+
+/// What the two give, one turn after the other; the first comes first in every other turn.
+pub fn in_turn(
+    effort: Effort,
+    mut first: impl FnMut() -> f64,
+    mut second: impl FnMut() -> f64,
+) -> (Vec<f64>, Vec<f64>) {
+    let mut times = (Vec::new(), Vec::new());
     let end = Instant::now() + effort.time;
     for turn in 0.. {
         let (a, b);
         if turn % 2 == 0 {
-            a = rust.time(list, clock);
-            b = port.time(list, clock);
+            a = first();
+            b = second();
         } else {
-            b = port.time(list, clock);
-            a = rust.time(list, clock);
+            b = second();
+            a = first();
         }
         if turn >= WARMING {
-            times.rust.push(a);
-            times.port.push(b);
+            times.0.push(a);
+            times.1.push(b);
         }
-        let enough = times.rust.len() >= LEAST;
-        if enough && (times.rust.len() >= effort.turns || Instant::now() > end) {
+        let enough = times.0.len() >= LEAST;
+        if enough && (times.0.len() >= effort.turns || Instant::now() > end) {
             break;
         }
     }
@@ -92,7 +107,7 @@ const WARMING: usize = 4;
 const LEAST: usize = 21;
 
 /// What it takes to read the clock twice.
-fn clock() -> Duration {
+pub fn clock() -> Duration {
     let mut times: Vec<Duration> = (0..1001).map(|_| Instant::now().elapsed()).collect();
     times.sort();
     times[times.len() / 2]

@@ -1,6 +1,6 @@
 //! The port's side: the crate that a station links.
 
-use crate::calls::{Asked, Block, Refusal, Side};
+use crate::calls::{Asked, Block, Refusal, Side, Under};
 use station::{BlockSlot, Parts, Sequence, Tables};
 
 /// Bytes of the lent buffers for a block slot, and for a head slot.
@@ -12,6 +12,14 @@ pub struct Port(Tables);
 impl Port {
     pub fn new(n: usize, m: usize) -> Port {
         Port(Tables::new(n, m).expect("sizes in range"))
+    }
+
+    pub fn of(tables: Tables) -> Port {
+        Port(tables)
+    }
+
+    pub fn tables(&self) -> &Tables {
+        &self.0
     }
 }
 
@@ -60,6 +68,12 @@ impl Side for Port {
     #[inline(never)]
     fn restart(&mut self, now: u64) -> Result<(), Refusal> {
         self.0.restart(now).map_err(number)
+    }
+
+    #[inline(never)]
+    fn under(&mut self, slot: u32) -> Result<Under, Refusal> {
+        let under = self.0.under(BlockSlot(slot)).map_err(number)?;
+        Ok(Under { blocks: under.blocks as u32, highest: under.highest.0 })
     }
 
     fn restore(&mut self, from: &Self) {

@@ -1,12 +1,22 @@
 //! The results as Markdown tables.
 
 use crate::sizes::{Outcome, Size};
+use crate::stats::Spread;
+use crate::under::{Two, Visits};
 
 /// What was measured of one case at one size.
 pub struct Line<'a> {
     pub name: &'static str,
     pub size: &'a Size,
     pub outcome: Option<Outcome>,
+}
+
+/// The bytes of stack of one case at the smallest and at the largest size, the original's where it
+/// runs the case too.
+pub struct Depths {
+    pub name: &'static str,
+    pub rust: Option<[usize; 2]>,
+    pub port: [usize; 2],
 }
 
 fn names<'a>(lines: &'a [Line]) -> Vec<&'a str> {
@@ -37,6 +47,11 @@ fn digits(number: f64) -> String {
     }
 }
 
+fn ratio(spread: &Spread) -> String {
+    let Spread { lower, median, upper, .. } = spread;
+    format!("{} ({} to {})", digits(*median), digits(*lower), digits(*upper))
+}
+
 fn heading(words: &[String]) {
     println!("| {} |\n|{}", words.join(" | "), "---|".repeat(words.len()));
 }
@@ -54,12 +69,10 @@ pub fn times(lines: &[Line]) {
             let cells = ms.iter().map(|&m| match at(lines, name, n, m) {
                 None => " | | -".to_string(),
                 Some(o) => format!(
-                    "{} | {} | {} ({} to {})",
+                    "{} | {} | {}",
                     digits(o.rust.median),
                     digits(o.port.median),
-                    digits(o.ratio.median),
-                    digits(o.ratio.lower),
-                    digits(o.ratio.upper)
+                    ratio(&o.ratio)
                 ),
             });
             println!("| {name} | {} |", cells.collect::<Vec<_>>().join(" | "));
@@ -117,11 +130,44 @@ pub fn memory(rust: (usize, usize), port: (usize, usize)) {
     println!("| n = 1024, m = 64 | {} | {} |", all(rust), all(port));
 }
 
+/// For each case, the marking and what hangs under the same blocks at each n.
+pub fn beside_marking(sizes: &[&Size], all: &[(&str, Vec<Two>)]) {
+    let columns = sizes.iter().flat_map(|size| {
+        [format!("marking, n = {}", size.n), "under".to_string(), "under / marking".to_string()]
+    });
+    heading(&[vec!["call".to_string()], columns.collect()].concat());
+    for (name, times) in all {
+        let cells = times.iter().map(|two| {
+            let (marking, under) = (digits(two.first.median), digits(two.second.median));
+            format!("{marking} | {under} | {}", ratio(&two.ratio))
+        });
+        println!("| {name} | {} |", cells.collect::<Vec<_>>().join(" | "));
+    }
+}
+
+/// At each n the number of visits on the whole tree and on the worst table, and the time of one.
+pub fn visits(all: &[Visits]) {
+    let columns = [
+        "n",
+        "whole tree: visits",
+        "a visit",
+        "worst table: visits",
+        "a visit",
+        "worst / whole tree",
+    ];
+    heading(&columns.map(String::from));
+    for Visits { n, tree, worst, times } in all {
+        let (on_tree, on_worst) = (digits(times.first.median), digits(times.second.median));
+        println!("| {n} | {tree} | {on_tree} | {worst} | {on_worst} | {} |", ratio(&times.ratio));
+    }
+}
+
 /// The deepest stack of each case: at the smallest sizes, then at the largest.
-pub fn stacks(all: &[(&str, [(usize, usize); 2])]) {
+pub fn stacks(all: &[Depths]) {
     let columns = ["call", "Rust, n = 64, m = 4", "port", "Rust, n = 1024, m = 64", "port"];
     heading(&columns.map(String::from));
-    for (name, [small, large]) in all {
-        println!("| {name} | {} | {} | {} | {} |", small.0, small.1, large.0, large.1);
+    for Depths { name, rust, port } in all {
+        let rust = [0, 1].map(|at| rust.map_or("-".to_string(), |bytes| bytes[at].to_string()));
+        println!("| {name} | {} | {} | {} | {} |", rust[0], port[0], rust[1], port[1]);
     }
 }

@@ -2,7 +2,7 @@
 //! scope document says. The shape of its tables is fixed by their type, so no call tests it.
 
 use crate::blocks::{BlockEntry, BlockTable};
-use crate::calls::{Asked, Block, Refusal, Side};
+use crate::calls::{Asked, Block, Refusal, Side, Under};
 use crate::chain_heads::ChainHeadsTable;
 use crate::staged_validation::BlockStatus;
 use station::{Hash, NONE_REF, Parts};
@@ -104,6 +104,16 @@ impl<const N: usize, const M: usize> Side for Rust<N, M> {
         self.heads.on_blocks_deleted(&mut self.blocks, &[], NONE_REF);
         self.heads.rebuild_from_blocks(&mut self.blocks, now, self.active);
         Ok(())
+    }
+
+    /// The original has no such call: this is its list, and the highest sequence in it.
+    #[inline(never)]
+    fn under(&mut self, slot: u32) -> Result<Under, Refusal> {
+        let mut list = [0; N];
+        let listed = self.blocks.mark_subtree(slot, &mut list);
+        let blocks = list[..listed].iter().filter_map(|&slot| self.blocks.get(slot));
+        let highest = blocks.map(BlockEntry::sequence).max().ok_or(3)?;
+        Ok(Under { blocks: listed as u32, highest })
     }
 
     fn restore(&mut self, from: &Self) {

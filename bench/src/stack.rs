@@ -6,14 +6,14 @@ use crate::measure::Pair;
 use std::arch::asm;
 use std::hint::black_box;
 
-const BYTES: usize = 64 * 1024;
+/// Room for a call that goes down 1,024 levels.
+const BYTES: usize = 256 * 1024;
 
 /// Two paints, lest a call write the very byte.
 const PAINTS: [u8; 2] = [0xa5, 0x5a];
 
-/// Aligned as a stack is where it starts.
-#[repr(align(16))]
-struct Stack([u8; BYTES]);
+/// Bytes of a row of the stack, which is aligned as a stack is where it starts.
+const ROW: usize = size_of::<u128>();
 
 extern "C" fn enter<F: FnMut()>(act: *mut F) {
     // SAFETY: `depth` gives a live closure that nobody else uses meanwhile.
@@ -22,7 +22,8 @@ extern "C" fn enter<F: FnMut()>(act: *mut F) {
 
 /// The bytes that the act wrote below where it started.
 fn depth<F: FnMut()>(paint: u8, mut act: F) -> usize {
-    let mut stack = Box::new(Stack([paint; BYTES]));
+    let painted = u128::from_le_bytes([paint; ROW]);
+    let mut stack = vec![painted; BYTES / ROW];
     let start: extern "C" fn(*mut F) = enter;
     // SAFETY: the stack pointer is moved to the end of the buffer, and put back from a register that
     // the called function keeps; the act does not unwind.
@@ -32,16 +33,18 @@ fn depth<F: FnMut()>(paint: u8, mut act: F) -> usize {
             "mov rsp, {top}",
             "call {start}",
             "mov rsp, r12",
-            top = in(reg) stack.0.as_mut_ptr().add(BYTES),
+            top = in(reg) stack.as_mut_ptr().add(BYTES / ROW),
             start = in(reg) start,
             in("rdi") &raw mut act,
             out("r12") _,
             clobber_abi("C"),
         );
     }
-    let kept = black_box(&stack).0.iter().take_while(|byte| **byte == paint).count();
-    assert!(kept > 0, "the call needs a larger stack");
-    BYTES - kept
+    let deepest = black_box(&stack).iter().position(|row| *row != painted);
+    let deepest = deepest.expect("the return address is written");
+    assert!(deepest > 0, "the call needs a larger stack");
+    let kept = (stack[deepest] ^ painted).trailing_zeros() as usize / 8;
+    BYTES - ROW * deepest - kept
 }
 
 /// The depth of each call of the list.
@@ -66,6 +69,9 @@ fn depths(list: &List, side: &mut impl Side, paint: u8) -> Vec<usize> {
         }
         List::Restart(calls) => {
             all.extend(calls.iter().map(|c| depth(paint, || _ = black_box(side.restart(*c)))))
+        }
+        List::Under(calls) => {
+            all.extend(calls.iter().map(|c| depth(paint, || _ = black_box(side.under(*c)))))
         }
     }
     all

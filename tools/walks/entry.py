@@ -12,11 +12,10 @@ record's borrow is open over the call. The answer is a number or an enum, and wh
 number or a struct of plain data.
 """
 import dataclasses
-import re
 
 from kinds import Data, Held, Lent, Number, Slice, Value
-from kinds import nested, projection, read_type, sub
-from sources import after_bracket, comma_parts
+from kinds import projection, read_type
+from walked import Walked, call_words
 
 
 @dataclasses.dataclass(frozen=True)
@@ -27,23 +26,20 @@ class Field:
     type: object
 
 
-class Entry:
+class Entry(Walked):
     def __init__(self, given, function, source):
-        self.path, self.callee = given["function"], given["callee"]
-        self.crate, self.name = self.path.split("::")[0], self.path.split("::")[-1]
-        self.given = given
+        super().__init__(given)
+        self.callee = given["callee"]
         record, result = given["record"], given["result"]
         self.held = Held(record["field"], read_type(record["holds"]))
         self.fields = [Field(at, name, read_type(type_)) for at, (name, type_) in enumerate(result["fields"])]
         self.result = result["type"].split("::")[-1]
         self.answer, self.stored = self.field(result["answer"]), self.field(result["stored"])
-        self.parameters = self.read_parameters(function, record["type"])
+        self.has_parameters(self.read_parameters(function, record["type"]))
         self.arguments = self.read_call(source[slice(*function.body_at)])
         self.lent = next(one for one in self.parameters if isinstance(one, Lent))
-        self.slices = [one for one in self.parameters if isinstance(one, Slice)]
         self.written = [one for one in self.slices if one.mutable]
         self.copied = [one for one in self.slices if not one.mutable]
-        self.borrowed = [one for one in self.parameters if not isinstance(one, Value)]
         self.passed = [one for one in self.arguments if isinstance(one, Slice)]
         self.number_locals()
 
@@ -75,12 +71,8 @@ class Entry:
 
     def read_call(self, body):
         """The arguments of the call, in its order."""
-        callee = self.callee.split("::")[-1]
-        opened = re.search(rf"= {callee}\(", body).end()
-        inner = body[opened:after_bracket(body, opened - 1) - 1]
         named = {one.name: one for one in self.parameters}
-        words = [inner[slice(*part)].strip() for part in comma_parts(inner)]
-        return [self.held if "." in word else named[word] for word in words]
+        return [self.held if "." in word else named[word] for word in call_words(body, self.callee)]
 
     def number_locals(self):
         """The places of the MIR: the answer, the parameters, the result, and what is made for the call."""
@@ -96,33 +88,6 @@ class Entry:
                 self.locals += 2
 
     # names that the text uses again and again
-
-    def module(self, path, part):
-        """The module of a function or a type: of this crate's own or of another's."""
-        crate, *inner = path.split("::")
-        kind = "declared." if part == "specs" else ""
-        own = f"·{part}.{part}." if crate == self.crate else f".{part}."
-        return f"Rattle.{crate}{own}{kind}" + ".".join(inner)
-
-    def symbol(self, path):
-        crate, *_, name = path.split("::")
-        before = f"{crate}·" if self.callee.split("::")[0] == self.crate else ""
-        return f"#{before}{name.replace('_', '-')}"
-
-    def callee_code(self):
-        return "code.calls-" + self.callee.replace("_", "-").replace("::", "·")
-
-    def lifetimes(self, ones):
-        return nested([f"κ{sub(one.lifetime)}" for one in ones])
-
-    def shares(self, ones):
-        return nested([f"q{sub(one.lifetime)}" for one in ones])
-
-    def tokens(self, ones):
-        return " ⊛ ".join([f"‵ (flft κ{sub(one.lifetime)} q{sub(one.lifetime)})" for one in ones] + ["‵ ftrue"])
-
-    def at_entry(self):
-        return f"(({self.lifetimes(self.borrowed)}, {self.shares(self.borrowed)}, tt, a, vals), tt)"
 
     def at_last(self, one):
         """What a slice holds at the end."""

@@ -1,5 +1,6 @@
 """What a walk writes for a value of each type, and for a parameter of each kind."""
 import dataclasses
+import re
 
 WIDTHS = {"u8": 8, "u16": 16, "u32": 32, "u64": 64, "usize": 64}
 SUBSCRIPTS = str.maketrans("0123456789", "₀₁₂₃₄₅₆₇₈₉")
@@ -113,10 +114,37 @@ class Data:
         return owed
 
 
+@dataclasses.dataclass(frozen=True)
+class Array:
+    """An array of numbers. A struct holds its list mapped by the identity."""
+    element: Number
+    length: int
+
+    denotes = "List ℕ"
+    row = property(lambda self: f"(Array {self.element.name} {self.length})")
+
+    def value(self, term):
+        return f"only (array-vals ({self.element.vals}) {argument(term)})"
+
+    def owned(self, term, known):
+        number = self.element
+        makes = f"array-makes 𝓤 H A W {number.name} (uint-makes 𝓤 H A W {number.width}) {self.length}"
+        return f"owned ! {self.row} (Is {self.row}) ({makes}) {argument(term)} _ {argument(known)}"
+
+    def mapped(self, term):
+        return f"map (λ v. v) {argument(term)}"
+
+    def known(self, owed, term):
+        holds = f"(λ (zs : List ℕ). Is {self.row} zs (array-vals ({self.element.vals}) zs))"
+        return f"subst {holds} (map-id {argument(term)}) ({owed})"
+
+
 def read_type(text):
-    """A type as the inputs have it: `u32`, `struct rules::BlockSlot`, `enum rules::Outcome`."""
+    """A type as the inputs have it: `u32`, `[u8; 64]`, `struct rules::BlockSlot`, `enum rules::Outcome`."""
     if text in WIDTHS:
         return Number(text)
+    if array := re.fullmatch(r"\[(\w+); (\d+)\]", text):
+        return Array(Number(array[1]), int(array[2]))
     kind, path = text.split()
     return {"struct": Data(path, "B", "LL", ""), "enum": Data(path, "E", "EL", "tt ")}[kind]
 
@@ -140,7 +168,8 @@ class Slice:
     typed = property(lambda self: ROOM.format(self.room))
     plain = property(lambda self: f"tt (plain (λ _. {self.element}))")
     row = property(lambda self: self.row_under(self.lifetime))
-    own = property(lambda self: f"‵ ({self.row} .own {self.lent} ({self.value} ∷ []))")
+    own = property(lambda self: self.owned_under(self.lifetime))
+    mir = property(lambda self: f"sliceTy (tyRef (named {self.lifetime}) imm (tyInt {Number(self.element).width}))")
 
     @property
     def lent(self):
@@ -152,6 +181,9 @@ class Slice:
 
     def row_under(self, lifetime):
         return f"{'Mut' if self.mutable else 'Shr'}Slice (named {lifetime}) κ{sub(self.lifetime)} {self.element}"
+
+    def owned_under(self, lifetime):
+        return f"‵ ({self.row_under(lifetime)} .own {argument(self.now)} ({self.value} ∷ []))"
 
     def binders(self):
         at = sub(self.place)
@@ -282,6 +314,63 @@ class Held:
     def premise(self):
         holds = self.type.holds(self.term)
         return f"({holds})" if self.is_number else holds
+
+    def owned(self):
+        return self.type.owned(self.term, self.known)
+
+
+@dataclasses.dataclass(frozen=True)
+class Rows:
+    """The rows, a slice of records lent by `&mut` that a loop fills."""
+    name: str
+    place: int
+    lifetime: int
+    path: str
+
+    vals = "slice-vals"
+    value = "s"
+    term = "ys"
+    now = "x ys"
+    typed = ROOM.format("room")
+    plain = "tt (plain (λ _. T.the-row))"
+    struct = property(lambda self: self.path.split("::")[-1])
+    denotes = property(lambda self: f"RefT (List {self.struct})")
+    row = property(lambda self: f"MutSlice (named {self.lifetime}) κ{sub(self.lifetime)} T.the-row")
+    mir = property(lambda self: f"sliceTy (tyRef (named {self.lifetime}) mut (pointee (T.the-row .written)))")
+    tells = property(lambda self: f"mut-slice-tells (named {self.lifetime}) (κs{projection(self.lifetime)}) T.the-row")
+
+    def binders(self):
+        return f"(b o : ℕ) (γ : GName) (ys : List {self.struct})"
+
+    def bound(self):
+        return "(room : Room T.the-row (length ys))"
+
+    def declared(self):
+        yield [f"abbrev x : List {self.struct} → {self.denotes}", "x l = record { ptr = (b, o); name = γ; now = l }"]
+        yield ["abbrev s : Val", "s = sliceVal (b, o) (length ys)"]
+
+    def stays(self):
+        return f"stay-slice ({self.lifetime} ∷ []) {self.plain}"
+
+    def goes(self, lifetimes):
+        return f"goes-slice 𝓤 H A W {lifetimes} {self.lifetime} {self.plain}"
+
+    def evidence(self):
+        return [f"are{projection(self.place)} .0 .1"]
+
+
+@dataclasses.dataclass(frozen=True)
+class Passed:
+    """A number or an array that a call is given by value: it stands in a local, or in a field of one."""
+    term: str
+    type: object
+    known: str
+    local: int
+    field: int = None
+
+    now = property(lambda self: self.term)
+    denotes = property(lambda self: self.type.denotes)
+    value = property(lambda self: self.type.value(self.term))
 
     def owned(self):
         return self.type.owned(self.term, self.known)

@@ -1,47 +1,22 @@
 """The walk itself: from the places that are allocated to those that are freed."""
 from entry import Entry
 from kinds import Data, Held, argument, listed, nested, sub
-from steps import Lines
+from walked import FIELD, LOCAL, copy_of, owns, place, token
 
 POINTER = "(from ! (fld ! refl (hop ! (look-in ! {} (sub ! 0 refl (whole !))) (stop !))))"
-LENGTH = "(load ! (from ! (fld ! refl (stop !))) (look-in ! {} (sub ! 1 refl (whole !))))"
-LOCAL = "(load ! (from ! (stop !)) (look ! {} refl))"
-FIELD = "(load ! (from ! (fld ! refl (stop !))) (look-in ! {} (sub ! {} refl (whole !))))"
 LENT_FIELD = "(from ! (hop ! (look ! {} refl) (fld ! refl (stop !))))"
 SHOWN = "T.the-row (Is T.the-row) (shows 𝓤 H A T.the-row)"
 SPELT = f"spelt ! {SHOWN} (LL.vals T.the-type T′.the-laws) (LL.tells T.the-type T′.the-laws) fullShare h vs b o $"
 OPENED = "what the parameters own and the tokens are taken apart, and the record's borrow is opened"
 
 
-def token(one):
-    return f"token of {one.name}"
-
-
-def owns(one):
-    return f"what {one.name} owns"
-
-
 def final(one):
     return f"what {one.name} holds at last"
 
 
-def place(local):
-    return f"_{local}"
-
-
-def space(local):
-    return f"space of _{local}"
-
-
 class Script(Entry):
     def walk_steps(self):
-        places = [name for local in reversed(range(self.locals)) for name in (place(local), space(local))]
-        steps = Lines([*places, "tokens", "owned"])
-        allocations = " ".join(f"alloc1 ! (λ l{sub(local)}." for local in range(self.locals))
-        steps.bind(f"{allocations} alloc0 ! $ params1 ! $", self.locals)
-        for one in self.parameters:
-            steps.do(f"pass1 ! (init ! {steps.at(place(one.place + 1))} refl {one.typed})")
-        steps.do("pass0 !")
+        steps = self.entered()
         self.open_record(steps)
         self.make_arguments(steps)
         self.call(steps)
@@ -52,14 +27,7 @@ class Script(Entry):
 
     def open_record(self, steps):
         steps.comment(OPENED)
-        steps.front("owned")
-        for one in self.parameters:
-            steps.split_off("fsplit !", "owned", owns(one))
-        steps.front("owned")
-        steps.front("tokens")
-        for one in self.borrowed:
-            steps.split_off("split !", "tokens", token(one))
-        steps.front("tokens")
+        self.take_apart(steps)
         steps.front(owns(self.lent))
         steps.take("fsplit3 !", 1, "same", "seen", "borrow")
         steps.take("drop !", 1)
@@ -85,22 +53,16 @@ class Script(Entry):
             elif one in self.written:
                 slice_at = steps.at(place(one.place + 1))
                 pointer_at = steps.at(place(self.pointers[one]))
-                parts = f"(and-then ! {LOCAL.format(pointer_at)} (and-then ! {LENGTH.format(slice_at)} (no-more !)))"
+                parts = f"(and-then ! {LOCAL.format(pointer_at)} (and-then ! {FIELD.format(slice_at, 1)} (no-more !)))"
                 self.assign(steps, f"(addr ! {POINTER.format(slice_at)})", self.pointers[one], "(tt, tt)")
                 self.assign(steps, f"(agg ! {parts})", self.lent_again[one], one.typed)
             steps.end_line()
 
-    def assign(self, steps, value, local, typed):
-        steps.do(f"assigns ! {value} (from ! (stop !)) (init ! {steps.at(place(local))} refl {typed})")
-
     def call(self, steps):
         steps.comment("the call")
         for one in self.copied:
-            steps.front(owns(one))
-            copy = f"shr-slice-copy 𝓤 H A W (named {one.lifetime}) κ{sub(one.lifetime)} {one.element} .twice {one.lent} ({one.value} ∷ [])"
-            steps.do(f"use1 W ({one.own} ⊛ {one.own}) ({copy})")
-            steps.take("split !", 1, f"copy of {one.name}", owns(one))
-        taken = [owns(one) if one.mutable else f"copy of {one.name}" for one in self.passed]
+            self.copy(steps, one)
+        taken = [owns(one) if one.mutable else copy_of(one) for one in self.passed]
         steps.group("callee's tokens", *map(token, self.passed), "tokens")
         steps.group("taken", "callee's tokens", *taken)
         known = argument(self.held.type.known(self.owed_held()))
@@ -172,15 +134,7 @@ class Script(Entry):
         steps.take(f"closes ! tt T.the-row (h′ r) ({record[1:-1]} ∷ []) b o", 5, "seen", "borrow", token(self.lent))
 
     def leave(self, steps):
-        steps.end_line()
-        steps.do(f"returns ! (look ! {steps.at(place(0))} refl)")
-        for local in reversed(range(self.locals)):
-            steps.do(f"forget ! {steps.at(place(local))} refl")
-        for local in range(self.locals):
-            steps.front(place(local), space(local))
-            steps.take("free1 !", 2)
-        steps.do("free0 !")
-        steps.end_line()
+        self.returned(steps, range(self.locals))
         kept = ["seen", "borrow", token(self.lent), "callee's tokens", *map(final, self.written), *map(owns, self.copied)]
         lengths = " ".join(f"l{sub(100 + one.place)}" for one in self.written)
         known = argument(self.answer.type.known(self.owed_result(self.answer)))

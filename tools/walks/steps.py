@@ -71,3 +71,11 @@ class Lines(Steps):
         """The last step, and all brackets that are open."""
         self.do(last + ")" * self.open)
         self.lines.append(self.script())
+
+    def choose(self, line, branches, last):
+        """A line that leaves a bracket open, the branches in it, what follows it, and all brackets that are open."""
+        self.end_line()
+        self.lines.append(line)
+        for branch in branches:
+            self.lines += branch.lines
+        self.lines[-1] += f"){last}" + ")" * self.open

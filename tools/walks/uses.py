@@ -1,6 +1,7 @@
 """What a walk's file uses."""
 from entry import Entry
 from kinds import Data, Number, Value
+from walked import names
 
 BEFORE = """\
 mathlib.Core.Path.{_≡_, refl, ap}
@@ -52,11 +53,6 @@ class Uses(Entry):
         widths = {"w32"} | ({answer.width} if isinstance(answer, Number) else set())
         elements = {one.element for one in self.slices} | {"u32"}
 
-        def names(module, *given):
-            """A line for the names that are wanted: each stands by itself or beside whether it is."""
-            wanted = [name for name, is_wanted in (one if isinstance(one, tuple) else (one, True) for one in given) if is_wanted]
-            return [f"{module}.{{{', '.join(wanted)}}}"] if wanted else []
-
         copies, any_value = bool(self.copied), bool(values)
         yield from BEFORE
         yield from names("mir.Syntax", "named", *sorted(widths))
@@ -79,7 +75,7 @@ class Uses(Entry):
     def own_uses(self):
         record, result = self.lent.path, self.given["result"]["type"]
         for path in (record, result):
-            yield f"{self.module(path, 'specs')}.{{{path.split('::')[-1]}}}"
+            yield from self.type_uses(path)
         for path, letter in ((record, "T"), (result, "P")):
             yield from self.laws_of(path, letter)
         if isinstance(self.answer.type, Data):
@@ -87,18 +83,7 @@ class Uses(Entry):
             yield from self.laws_of(self.answer.type.path, "E")
         held = self.held.type
         if isinstance(held, Data):
-            yield f"{self.module(held.path, 'specs')}.{{{held.name}}}"
+            yield from self.type_uses(held.path)
             yield from self.laws_of(held.path, "B")
-        callee, this = self.module(self.callee, "proofs"), self.module(self.path, "proofs")
-        yield f"{callee} as callee"
-        yield f"{callee}.Symbol as callee-def"
-        yield f"{callee}.Symbol.{{name as {self.symbol(self.callee)}}}"
-        yield f"{callee}.Met as callee-thm"
-        yield f"{this}.Key.{{name as {self.symbol(self.path)}}}"
-        yield f"{this} as this"
-        yield f"{this}.Statement as stated"
-        yield f"{this}.Code as code"
-
-    def laws_of(self, path, letter):
-        module = self.module(path, "proofs")
-        return [f"{module} as {letter}", f"{module}.Laws as {letter}′"]
+        yield from self.callee_uses(self.callee, "callee")
+        yield from self.this_uses()

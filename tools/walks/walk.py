@@ -1,23 +1,17 @@
 """The walk of a function, as the text of its Proof.antt."""
 from kinds import Slice, Value
-from kinds import listed, nested, product, projection, sub
-from script import Script, owns, token
+from kinds import listed, nested, product, sub
+from script import Script
 from steps import Steps
 from uses import Uses
-
-RULE = "(this.clauses 𝓤 H A {} run)"
-
-
-def conjunction(sentences):
-    first, *rest = sentences
-    if not rest:
-        return f"({first})"
-    return f"({first}) × {conjunction(rest)}" if len(rest) == 1 else f"({first}) × ({conjunction(rest)})"
+from walked import MODEL, RULE, conjunction, owns, token
 
 
 class Walk(Uses, Script):
     def text(self):
-        parts = [self.head(), [*self.stayed(), *self.contract()], self.body(), self.walks(), self.meets(), self.spec()]
+        contract = ["-- the contract that the proof cites", *self.contract("Callee", "callee")]
+        spec = self.spec(("Callee", self.callee, "callee"))
+        parts = [self.head(), [*self.stayed(), *contract], self.body(), self.walks(), self.meets(), spec]
         return "\n\n".join("\n".join(part) for part in parts) + "\n"
 
     def head(self):
@@ -26,17 +20,6 @@ class Walk(Uses, Script):
                "what it returns is stored and the borrow is closed.")
         for use in self.uses():
             yield f"use {use}"
-
-    def stayed(self):
-        yield "abbrev stayed : Stays (this.ended .signature .params) (this.ended .kept)"
-        yield f"stayed = {nested([one.stays() for one in self.parameters])}"
-        yield ""
-
-    def contract(self):
-        yield "-- the contract that the proof cites"
-        yield ("abbrev Callee : {M : Type 1} (𝓤 : URA M) (H : Heap 𝓤) (A : Atoms 𝓤) (mem : Memory → SProp 𝓤) "
-               "(run : Routine → Fun 𝓤) → Contract 𝓤")
-        yield "Callee 𝓤 H A mem run = tripleOf 𝓤 H A callee.signature (callee.spec 𝓤 H A mem run)"
 
     def body(self):
         """The module over what is lent: its names, what goes to the callee and what comes back, and the walk."""
@@ -52,23 +35,6 @@ class Walk(Uses, Script):
             self.walk(),
         ]
         yield "\n\n".join("\n".join(f"  {line}" for line in lines) for lines in declarations)
-
-    def telescope(self):
-        lifetimes = " ".join(f"κ{sub(one.lifetime)}" for one in self.borrowed)
-        shares = " ".join(f"q{sub(one.lifetime)}" for one in self.borrowed)
-        binders = [one.binders() for one in self.parameters]
-        bounds = [bound for one in self.parameters if (bound := one.bound())]
-        lent = " ".join([f"({lifetimes} : Lft) ({shares} : Share)", *binders, *bounds])
-        return ("module _ {M : Type 1} (𝓤 : URA M) (H : Heap 𝓤) (A : Atoms 𝓤) (W : Given 𝓤 H A) (at-mem : Memory → SProp 𝓤) "
-                f"(run : Routine → Fun 𝓤) {lent} where")
-
-    def entry_names(self):
-        values = nested([f"{one.value} ∷ []" for one in self.parameters])
-        yield ["abbrev Arg : Type 0", f"Arg = {product([one.denotes for one in self.parameters])}"]
-        yield ["abbrev a : Arg", f"a = {nested([one.now for one in self.parameters])}"]
-        yield [f"abbrev vals : {product(['List Val'] * len(self.parameters))}", f"vals = {values}"]
-        yield ["abbrev Post : Val → SProp 𝓤",
-               f"Post = walkOf 𝓤 H A this.ended stayed {RULE.format('at-mem')} .post {self.at_entry()}"]
 
     def callee_names(self):
         values = nested([f"{one.value} ∷ []" for one in self.arguments])
@@ -164,44 +130,23 @@ class Walk(Uses, Script):
             yield f"      {line}"
 
     def walks(self):
-        arguments = [f"κs{projection(one.lifetime)}" for one in self.borrowed]
-        arguments += [f"qs{projection(one.lifetime)}" for one in self.borrowed]
-        for one in self.parameters:
-            term = f"a{projection(one.place)}"
-            parts = [""] if isinstance(one, Value) else [" .ptr .0", " .ptr .1", " .name", " .now"]
-            arguments += [term + part for part in parts]
-        for one in self.parameters:
-            arguments += one.evidence()
-        given = " ".join(f"({term})" for term in arguments)
         clauses, function = RULE.format("mem"), "(WpFn 𝓤 H C Λ code.function)"
-        yield ("module _ {M : Type 1} (𝓤 : URA M) (H : Heap 𝓤) (A : Atoms 𝓤) (W : Given 𝓤 H A) (mem : Memory → SProp 𝓤) "
+        yield (f"module _ {MODEL} (W : Given 𝓤 H A) (mem : Memory → SProp 𝓤) "
                "(run : Routine → Fun 𝓤) where")
         yield (f"  walks : (C : Calls 𝓤 H) (Λ : Loops 𝓤 H) → FmC 𝓤 H (W .laws) C → Triple 𝓤 (C {self.symbol(self.callee)}) "
                f"(Callee 𝓤 H A mem run) → Walks 𝓤 H A this.ended stayed {function} {clauses}")
         yield (f"  walks C Λ fm known = walked 𝓤 H A this.ended stayed {clauses} {function} "
                f"(λ κs. {nested([one.vals for one in self.parameters])})")
         yield f"      (λ κs. {nested([one.tells for one in self.parameters])})"
-        yield f"      (λ κs qs bounds a g are. via 𝓤 _ (fst∗ 𝓤 _ (emp 𝓤)) (walk 𝓤 H A W mem run {given} C Λ fm known))"
+        yield f"      (λ κs qs bounds a g are. via 𝓤 _ (fst∗ 𝓤 _ (emp 𝓤)) (walk 𝓤 H A W mem run {self.walk_arguments()} C Λ fm known))"
 
     def meets(self):
         clauses, function = RULE.format("mem"), "(WpFn 𝓤 H (𝓣 .C) (𝓣 .Λ) code.function)"
         goes = nested([one.goes(len(self.borrowed)) for one in self.parameters])
-        yield ("meets : {M : Type 1} (𝓤 : URA M) (H : Heap 𝓤) (A : Atoms 𝓤) → Given 𝓤 H A → (mem : Memory → SProp 𝓤) "
+        yield (f"meets : {MODEL} → Given 𝓤 H A → (mem : Memory → SProp 𝓤) "
                f"(run : Routine → Fun 𝓤) (𝓣 : Tables 𝓤 H) → Triple 𝓤 (𝓣 .C {self.symbol(self.callee)}) (Callee 𝓤 H A mem run)")
         yield f"    → Meets 𝓤 H A this.signature {function} (this.spec 𝓤 H A mem run)"
         yield "meets 𝓤 H A W mem run 𝓣 known ="
         yield f"    walk-meets 𝓤 H A this.ended stayed W {goes}"
         yield (f"    {clauses} {function} (WpFn-mono 𝓤 H (W .laws) 𝓣 code.function) "
                "(walks 𝓤 H A W mem run (𝓣 .C) (𝓣 .Λ) (fmOf 𝓤 H (W .laws) 𝓣) known)")
-
-    def spec(self):
-        name = self.name.replace("_", "-")
-        callee = f"{self.symbol(self.callee)} callee-def.routine {self.callee_code()} (callee-thm.met 𝓤 H 𝓜 𝓖 𝓡)"
-        yield f"pub {name}-spec : {{M : Type 1}} → stated.statement M"
-        yield "unfolding code.routine tablesOf"
-        yield f"{name}-spec 𝓤 H 𝓜 𝓖 𝓡 ="
-        yield "    entered 𝓤 H (tripleOf 𝓤 H (𝓖 .A) this.signature (this.spec 𝓤 H (𝓖 .A) (𝓜 .mem) (𝓡 .run)))"
-        yield (f"    (tables 𝓤 H 𝓜 𝓡 code.env .C) (tables 𝓤 H 𝓜 𝓡 code.env .Λ) {self.symbol(self.path)} code.function "
-               "(code.unfolded 𝓤 H 𝓜 𝓡)")
-        yield "    (meets 𝓤 H (𝓖 .A) (givenOf 𝓤 H 𝓜 𝓖) (𝓜 .mem) (𝓡 .run) (tablesOf 𝓤 H 𝓜 (tables 𝓤 H 𝓜 𝓡 code.env))"
-        yield f"    (cited 𝓤 H (Callee 𝓤 H (𝓖 .A) (𝓜 .mem) (𝓡 .run)) 𝓜 𝓡 code.env {callee}))"

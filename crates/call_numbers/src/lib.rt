@@ -2,7 +2,7 @@
 ghost use mathlib.Core.Path.{_≡_};
 ghost use Prim.Native.Nat.{_*_};
 ghost use Rattle.rules.specs.Answers.{refusalNumber, outcomeSaid, admittedSaid, removedSaid, hangingSaid, timedSaid, deadlineSaid, spanGiven};
-ghost use Rattle.call_numbers.specs.Numbers.{answerNumber, claimedTo, wantedTo, timeTo, highestTo, spanFrom};
+ghost use Rattle.call_numbers.specs.Numbers.{answerNumber, screenedNumber, claimedTo, wantedTo, timeTo, highestTo, spanFrom};
 use cells::put_hash;
 use cells::put_time;
 use cells::put_word;
@@ -14,6 +14,7 @@ use rules::HeadSlot;
 use rules::Outcome;
 use rules::Refusal;
 use rules::Removed;
+use rules::Screened;
 use rules::Span;
 use rules::Timed;
 
@@ -64,6 +65,16 @@ pub fn hanging_number(hanging: Hanging, highest: &mut [u32]) -> u64
             blocks as u64
         }
         Hanging::Refused(why) => refusal(why),
+    }
+}
+
+// How many records were shown, or the refusal in the upper half.
+pub fn screened_number(screened: Screened) -> u64
+    ensures { λ r. ⌜ r ≡ screenedNumber screened ⌝ }
+{
+    match screened {
+        Screened::Rows(rows) => rows as u64,
+        Screened::Refused(why) => refusal(why),
     }
 }
 

@@ -16,7 +16,7 @@ use rules::StatusFound;
 // What stands for a count or a status that is not there.
 const NOTHING: u32 = 4294967295;
 
-// The number of a refusal, from 1 for the shape to 9 for a subtree that holds an active block.
+// The number of a refusal, from 1 for the shape to 10 for a list that is too short.
 pub fn refusal_number(why: Refusal) -> u32
     ensures { λ r. ⌜ r ≡ refusalNumber why ⌝ }
 {
@@ -30,6 +30,7 @@ pub fn refusal_number(why: Refusal) -> u32
         Refusal::Full => 7,
         Refusal::NotNext => 8,
         Refusal::HoldsActive => 9,
+        Refusal::ShortList => 10,
     }
 }
 

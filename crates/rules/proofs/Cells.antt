@@ -30,7 +30,7 @@ sets-next l (v ∷ vs) i (suc k) h =
     rw g (sets-next (set l i v) vs (suc i) k (omega arith) ∙ ap (λ (j : ℕ). set (sets (set l i v) (suc i) (take k vs)) j (getD vs k 0)) e)
 
 -- a run of stores with one more at its end
-pub sets-append : (l vs : List ℕ) (v i : ℕ) → sets l i (vs ++ v ∷ []) ≡ set (sets l i vs) (i + length vs) v
+pub sets-append {ℓ} : {A : Type ℓ} (l vs : List A) (v : A) (i : ℕ) → sets l i (vs ++ v ∷ []) ≡ set (sets l i vs) (i + length vs) v
 sets-append l [] v i = rw add-zero refl
 sets-append l (x ∷ vs) v i =
     let e : suc i + length vs ≡ i + suc (length vs) = omega arith in

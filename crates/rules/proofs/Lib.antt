@@ -10,6 +10,7 @@ pub mod Hashes
 pub mod Orders
 pub mod Best
 pub mod Timer
+pub mod Placed
 pub mod Rank
 pub mod Walks
 pub mod Refusals
@@ -19,4 +20,5 @@ pub mod Does
 pub mod Kept
 pub mod Demand3
 pub mod Weighed
+pub mod Screen
 pub mod Trials

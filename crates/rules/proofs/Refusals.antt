@@ -1,25 +1,26 @@
--- Every refusal is one of the paper's numbers, of fresh, restart, timer and deadline 1 alone, of under 1 or 3, and a refused call
--- leaves the state as it stood; under always does.
+-- Every refusal is one of the paper's numbers, of fresh, restart, timer and deadline 1 alone, of under 1 or 3, of screen 1 or 10, and a
+-- refused call leaves the state as it stood; under and screen always do.
 use mathlib.Core.Path.{_≡_, refl, ap}
 use mathlib.Core.Logic.{_≢_, _⊎_, inl, inr}
 use mathlib.Core.Bool.{Bool, true, false, not, _&&_}
 use mathlib.Core.List.{List}
 use mathlib.Core.Option.{Option, none, some}
-use Prim.Native.Nat.{ℕ, _≤_}
+use Prim.Native.Nat.{ℕ, _<_, _≤_}
 use native.Mathlib.Omega.{arith}
-use borrow.Author.Tests.{eqb-true, eqb-false}
-use lib.Dec.{eqb}
+use borrow.Author.Tests.{eqb-true, eqb-false, lt-ltb}
+use lib.Dec.{eqb, ltb}
 use lib.ListN.{length}
 use Rattle.rules.specs.Common.{if_then_else_}
 use Rattle.rules.specs.Hashes.{hashLength, zeroHash, hashAt, sameHash}
 use Rattle.rules.specs.Records.{NONE, occupied}
 use Rattle.rules.specs.BlockTable.{nextFree, markSubtree}
 use Rattle.rules.specs.Under.{hanging, highest}
+use Rattle.rules.specs.Screen.{screenOf}
 use Rattle.rules.specs.Removal.{removed}
 use Rattle.rules.specs.Rebuild.{restarted}
 use Rattle.rules.specs.Timer.{Ask, spanOr, recovery, deadline}
-use Rattle.rules.specs.Answers.{Answer, refused, done, slot, freed, hangs, request, noneDue, dueAt, neverDue, lastRefusal}
-use Rattle.rules.specs.Calls.{State, Stepped, Call, admitCall, promoteCall, removeCall, timerCall, restartCall, step, refuse, answering, keeping, shaped, blocksIn, headsIn, freshState, fresh, known, takesSlot, admit, isNext, promotedTo, promote, holdsActive, remove, under, asked, timer, earliestDeadline, restart}
+use Rattle.rules.specs.Answers.{Answer, refused, done, slot, freed, hangs, shown, request, noneDue, dueAt, neverDue, lastRefusal}
+use Rattle.rules.specs.Calls.{State, Stepped, Call, admitCall, promoteCall, removeCall, timerCall, restartCall, step, refuse, answering, keeping, shaped, blocksIn, headsIn, freshState, fresh, known, takesSlot, admit, isNext, promotedTo, promote, holdsActive, remove, under, screen, asked, timer, earliestDeadline, restart}
 use Rattle.rules.proofs.Splits.{split, option?, and-true, true-not-false}
 
 abbrev Numbered : ℕ → Type 0
@@ -31,6 +32,9 @@ First n = n ≡ 1
 abbrev OneOrThree : ℕ → Type 0
 OneOrThree n = (n ≡ 1) ⊎ (n ≡ 3)
 
+abbrev OneOrTen : ℕ → Type 0
+OneOrTen n = (n ≡ 1) ⊎ (n ≡ 10)
+
 -- if it refuses, then with a number that it may meet, and with the state kept
 Refuses : (ℕ → Type 0) → State → Stepped → Type 0
 Refuses may s w = (n : ℕ) → w .answer ≡ refused n → may n × (w .after ≡ s)
@@ -41,6 +45,7 @@ isRefusal done = false
 isRefusal (slot i) = false
 isRefusal (freed blocks) = false
 isRefusal (hangs blocks highest) = false
+isRefusal (shown rows) = false
 isRefusal (request head claims missing) = false
 isRefusal noneDue = false
 isRefusal (dueAt time) = false
@@ -139,6 +144,34 @@ module _ (s : State) where
       (λ e. split (occupied (s .tables .blocks .sequences) i) (λ o. rw (e, o)) (λ o. rw (e, o)))
       (λ e. rw e)
 
+  -- ---- screen
+
+  pub screen-refused : (room n : ℕ) → screen s room .answer ≡ refused n → ((n ≡ 1) ⊎ (n ≡ 10)) × (screen s room .after ≡ s)
+  unfolding screen Refuses
+  screen-refused room =
+      let b = s .tables .blocks in
+      let h = s .tables .heads in
+      let y = answering s (shown (screenOf (b .hashes) (b .sequences) (h .tips) (h .tails) (h .connected))) in
+      let w = if ltb room (headsIn (s .tables)) then refuse s 10 else y in
+      next OneOrTen s (not (shaped (s .tables))) 1 w (inl refl)
+      (next OneOrTen s (ltb room (headsIn (s .tables))) 10 y (inr refl) (answers OneOrTen s s (y .answer) refl))
+
+  -- 1 comes first, however long the list is
+  pub screen-misfit : (room : ℕ) → shaped (s .tables) ≡ false → screen s room .answer ≡ refused 1
+  unfolding screen
+  screen-misfit room e = rw e
+
+  -- 10, of tables of a right shape, exactly where the list has fewer than m places: otherwise `screen-any` has the records
+  pub screen-short : (room : ℕ) → shaped (s .tables) ≡ true → room < headsIn (s .tables) → screen s room .answer ≡ refused 10
+  unfolding screen
+  screen-short room e l = rw (e, lt-ltb room (headsIn (s .tables)) l)
+
+  pub screen-keeps : (room : ℕ) → screen s room .after ≡ s
+  unfolding screen
+  screen-keeps room = split (shaped (s .tables))
+      (λ e. split (ltb room (headsIn (s .tables))) (λ o. rw (e, o)) (λ o. rw (e, o)))
+      (λ e. rw e)
+
   -- ---- calls that meet refusal 1 only
 
   shape-first : (y : Stepped) → Refuses First s y → Refuses First s (if not (shaped (s .tables)) then refuse s 1 else y)
@@ -179,7 +212,7 @@ module _ (s : State) where
   unfolding Refuses
   numbered w p n e = let q = p n e in let f = q .0 in ((omega arith, omega arith), q .1)
 
-  -- a call that is refused gets a number from 1 to 9 and changes nothing
+  -- a call that is refused gets one of the paper's numbers and changes nothing
   pub refused-keeps : (call : Call) (n : ℕ) → step s call .answer ≡ refused n → ((1 ≤ n) × (n ≤ lastRefusal)) × (step s call .after ≡ s)
   unfolding step Refuses
   refused-keeps (admitCall sequence hash previous arrival) = admits s sequence hash previous arrival

@@ -1,11 +1,11 @@
 -- Lists of calls computed whole: the trial that 01 gives ("One trial whole"), and lists that a wrong rule gets wrong. What hangs under the
--- blocks of damaged tables.
+-- blocks of damaged tables, and the screen of damaged heads.
 use mathlib.Core.Path.{_≡_, refl}
 use mathlib.Core.List.{List, [], _∷_, _++_, map}
 use mathlib.Core.Option.{some}
 use Prim.Native.Nat.{ℕ, _*_}
 use lib.ListN.{length, replicate}
-use Rattle.rules.specs.Common.{lowest, better, best, countBelow, allBelow, inOrder}
+use Rattle.rules.specs.Common.{lowest, better, best, countBelow, allBelow, anyBefore, placed, placedBelow, inOrder}
 use Rattle.rules.specs.Hashes.{hashLength, bytesFrom, hashAt, putHash, sameHash, hashLess}
 use Rattle.rules.specs.Records.{NONE, slotsOf, occupied, used, active, isConnected, stored, withStatus, putBlock, putHead, emptyBlocks, emptyHeads, blocksFit, headsFit}
 use Rattle.rules.specs.BlockTable.{isBlock, find, nextFree, findParent, childOf, children, childless, reaches, inSubtree, markSubtree, adjusted, adjustCounts, setOccupied, setOnActiveChain, setStatus, delete, insertAt, resolveParent, adjust}
@@ -18,9 +18,11 @@ use Rattle.rules.specs.Promotion.{activate, promoted}
 use Rattle.rules.specs.Removal.{recount, recountAll, listed, headFreed, takesOver, heir, dropHead, dropHeads, blocksDeleted, freeAll, removed}
 use Rattle.rules.specs.Rebuild.{rebuildAt, rebuildHeads, rebuilt, restarted}
 use Rattle.rules.specs.Timer.{due, mayAsk, asksBefore, chosen, claimed, askAt, recovery, markRequested}
-use Rattle.rules.specs.Answers.{Answer, refused, done, slot, freed, hangs, request}
-use Rattle.rules.specs.Calls.{State, Call, admitCall, promoteCall, removeCall, timerCall, restartCall, shaped, freshState, admitAt, admit, isNext, promote, holdsActive, remove, under, asked, timer, restart, step, run}
+use Rattle.rules.specs.Screen.{hashSorted, hashThenSlot, standsBefore, standing, rowOf, screenOf}
+use Rattle.rules.specs.Answers.{Answer, refused, done, slot, freed, hangs, shown, request}
+use Rattle.rules.specs.Calls.{State, Call, admitCall, promoteCall, removeCall, timerCall, restartCall, shaped, freshState, admitAt, admit, isNext, promote, holdsActive, remove, under, screen, asked, timer, restart, step, run}
 use Rattle.rules.specs.Promises.{Made, made}
+use Rattle.rules.specs.declared.HeadRow.{HeadRow}
 
 -- 32 bytes alike
 abbrev hash : ℕ → List ℕ
@@ -231,12 +233,12 @@ damaged parents sequences = record {
   activeHead = NONE;
 }
 
--- what the call answers, beside what 02 says
-record Hanging : Type 0 where
+-- what a call answers, beside what 02 says
+record Answered : Type 0 where
   answer : Answer
   says : Answer
 
-abbrev hangingAt : State → ℕ → Answer → Hanging
+abbrev hangingAt : State → ℕ → Answer → Answered
 hangingAt s i says = record { answer = under s i .answer; says = says }
 
 -- its own parent, alone
@@ -259,7 +261,7 @@ ringed = damaged (1 ∷ 0 ∷ 1 ∷ 2 ∷ []) (5 ∷ 6 ∷ 7 ∷ 8 ∷ [])
 unfoldable broken : State
 broken = damaged (NONE ∷ 0 ∷ 1 ∷ []) (5 ∷ NONE ∷ 7 ∷ [])
 
-under-rows : List Hanging
+under-rows : List Answered
 under-rows =
     hangingAt alone 0 (hangs 1 5)
     ∷ hangingAt most 0 (hangs 7 7) ∷ hangingAt most 1 (hangs 1 6)
@@ -269,6 +271,61 @@ under-rows =
     ∷ hangingAt (damaged (0 ∷ 0 ∷ []) (5 ∷ [])) 0 (refused 1)
     ∷ []
 
-under-as-said : map (λ (r : Hanging). r .answer) under-rows ≡ map (λ (r : Hanging). r .says) under-rows
+under-as-said : map (λ (r : Answered). r .answer) under-rows ≡ map (λ (r : Answered). r .says) under-rows
 unfolding under-rows alone most round ringed broken emptyHeads allBelow slotsOf occupied onLevel met hanging highest blocksFit headsFit shaped under
 under-as-said = refl
+
+-- ---- the head screen
+
+-- slot 2 is empty, with a hash left over; of seven heads one is empty, one has that tip, one a tip out of range, and two share a tip
+unfoldable screened : State
+screened = record {
+  tables = record {
+    blocks = record {
+      hashes = hash 10 ++ hash 11 ++ hash 255 ++ hash 12;
+      parents = replicate 4 NONE;
+      sequences = 7 ∷ 7 ∷ NONE ∷ 9 ∷ [];
+      counts = replicate 4 0;
+      flags = replicate 4 0;
+    };
+    heads = record {
+      tips = 1 ∷ 2 ∷ NONE ∷ 9 ∷ 1 ∷ 0 ∷ 3 ∷ [];
+      tails = 0 ∷ NONE ∷ 5 ∷ 2 ∷ NONE ∷ 0 ∷ 3 ∷ [];
+      missing = replicate (7 * hashLength) 0;
+      requested = replicate 7 0;
+      arrivals = replicate 7 0;
+      connected = 3 ∷ 1 ∷ 1 ∷ 0 ∷ 2 ∷ 0 ∷ 255 ∷ [];
+    };
+  };
+  activeHead = NONE;
+}
+
+abbrev row : ℕ → ℕ → ℕ → ℕ → HeadRow
+row tip sequence kind anchor = record {
+  tip = record { 0 = tip };
+  sequence = record { 0 = sequence };
+  kind = record { 0 = kind };
+  anchor = record { 0 = anchor };
+}
+
+-- empty tips first, by slot; then by sequence, by hash, and the two that share a tip by slot
+unfoldable all-shown : List HeadRow
+all-shown =
+    row 2 NONE 1 NONE ∷ row 9 NONE 0 2
+    ∷ row 3 9 1 3
+    ∷ row 0 7 0 0 ∷ row 1 7 1 0 ∷ row 1 7 0 NONE
+    ∷ []
+
+abbrev screenFor : State → ℕ → Answer → Answered
+screenFor s room says = record { answer = screen s room .answer; says = says }
+
+screen-rows : List Answered
+screen-rows =
+    screenFor screened 7 (shown all-shown) ∷ screenFor screened 6 (refused 10)
+    ∷ screenFor (freshState 1 2) 2 (shown []) ∷ screenFor (freshState 1 2) 1 (refused 10)
+    ∷ screenFor (freshState 1 1) 0 (refused 1)
+    ∷ []
+
+screen-as-said : map (λ (r : Answered). r .answer) screen-rows ≡ map (λ (r : Answered). r .says) screen-rows
+unfolding screen-rows screened all-shown freshState emptyBlocks emptyHeads anyBefore placed placedBelow bytesFrom hashAt sameHash hashLess slotsOf occupied used isConnected hashSorted hashThenSlot standsBefore standing rowOf screenOf blocksFit headsFit shaped screen
+screen-as-said = refl

@@ -1,5 +1,6 @@
 -- Answers (01, "Replies and refusals"): the paper's number and values for each case of each enum.
 use mathlib.Core.Bool.{true, false}
+use mathlib.Core.List.{List}
 use mathlib.Core.Option.{Option, none, some}
 use Prim.Native.Nat.{ℕ}
 use Rattle.rules.specs.Kinds.{BlockSlot, HeadSlot, Sequence, Time, Hash}
@@ -32,7 +33,7 @@ use Rattle.rules.specs.declared.Recovery.the-variants as recovery
 use Rattle.rules.specs.declared.Deadline.{Deadline}
 use Rattle.rules.specs.declared.Deadline.the-variants as deadline
 use Rattle.rules.specs.declared.Refusal.{Refusal}
-use Rattle.rules.specs.declared.Refusal.the-variants.{Shape, HashLength, NoBlock, ReservedSequence, ZeroHash, Known, Full, NotNext, HoldsActive}
+use Rattle.rules.specs.declared.Refusal.the-variants.{Shape, HashLength, NoBlock, ReservedSequence, ZeroHash, Known, Full, NotNext, HoldsActive, ShortList}
 use Rattle.rules.specs.declared.Outcome.{Outcome}
 use Rattle.rules.specs.declared.Outcome.the-variants as outcome
 use Rattle.rules.specs.declared.Admitted.{Admitted}
@@ -43,6 +44,9 @@ use Rattle.rules.specs.declared.Timed.{Timed}
 use Rattle.rules.specs.declared.Timed.the-variants as timed
 use Rattle.rules.specs.declared.Hanging.{Hanging}
 use Rattle.rules.specs.declared.Hanging.the-variants as hanging
+use Rattle.rules.specs.declared.HeadRow.{HeadRow}
+use Rattle.rules.specs.declared.Screened.{Screened}
+use Rattle.rules.specs.declared.Screened.the-variants as screened
 use Rattle.rules.specs.declared.TimerAnswer.{TimerAnswer}
 use Rattle.rules.specs.declared.DeadlineAnswer.{DeadlineAnswer}
 use Rattle.rules.specs.declared.DeadlineAnswer.the-variants as deadlineAnswer
@@ -99,7 +103,7 @@ deadlineGot deadline.Never = none
 
 -- the refusals are numbered from 1 to this
 abbrev pub lastRefusal : ℕ
-lastRefusal = 9
+lastRefusal = 10
 
 abbrev pub refusalNumber : (why : Refusal) → ℕ
 refusalNumber Shape = 1
@@ -111,6 +115,7 @@ refusalNumber Known = 6
 refusalNumber Full = 7
 refusalNumber NotNext = 8
 refusalNumber HoldsActive = 9
+refusalNumber ShortList = 10
 
 pub data Answer : Type 0 where
   refused : (number : ℕ) → Answer
@@ -118,6 +123,7 @@ pub data Answer : Type 0 where
   slot : (i : BlockSlot) → Answer
   freed : (blocks : ℕ) → Answer
   hangs : (blocks : ℕ) (highest : Sequence) → Answer
+  shown : (rows : List HeadRow) → Answer
   request : (head : HeadSlot) (claims : Sequence) (missing : Hash) → Answer
   noneDue : Answer
   dueAt : (time : Time) → Answer
@@ -139,6 +145,11 @@ abbrev pub hangingSaid : (answer : Hanging) → Answer
 hangingSaid (hanging.Blocks blocks highest) = hangs blocks (highest .0)
 hangingSaid (hanging.Refused why) = refused (refusalNumber why)
 
+-- the records stand beside the answer, as many as its number says
+abbrev pub screenedSaid : (answer : Screened) (rows : List HeadRow) → Answer
+screenedSaid (screened.Rows number) rows = shown rows
+screenedSaid (screened.Refused why) rows = refused (refusalNumber why)
+
 abbrev pub timedSaid : (answer : Timed) (missing : Hash) → Answer
 timedSaid (timed.Request head sequence) missing = request (head .0) (sequence .0) missing
 timedSaid timed.NoneDue missing = noneDue
@@ -155,6 +166,7 @@ hashAsked done = zeroHash
 hashAsked (slot i) = zeroHash
 hashAsked (freed blocks) = zeroHash
 hashAsked (hangs blocks highest) = zeroHash
+hashAsked (shown rows) = zeroHash
 hashAsked noneDue = zeroHash
 hashAsked (dueAt time) = zeroHash
 hashAsked neverDue = zeroHash

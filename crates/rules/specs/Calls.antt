@@ -4,7 +4,7 @@ use mathlib.Core.Bool.{Bool, not, _&&_, _||_}
 use mathlib.Core.List.{List, [], _∷_}
 use mathlib.Core.Option.{Option, none, some}
 use Prim.Native.Nat.{ℕ}
-use lib.Dec.{eqb, leb}
+use lib.Dec.{eqb, ltb, leb}
 use lib.ListN.{length}
 use Rattle.rules.specs.Kinds.{BlockSlot, Sequence, Time, Hash}
 use Rattle.rules.specs.Common.{if_then_else_, isSome, lowest}
@@ -17,7 +17,8 @@ use Rattle.rules.specs.Removal.{removed}
 use Rattle.rules.specs.Promotion.{promoted}
 use Rattle.rules.specs.Rebuild.{restarted}
 use Rattle.rules.specs.Timer.{Ask, spanOr, recovery, markRequested, deadline}
-use Rattle.rules.specs.Answers.{Answer, refused, done, slot, freed, hangs, request, noneDue, dueAt, neverDue}
+use Rattle.rules.specs.Screen.{screenOf}
+use Rattle.rules.specs.Answers.{Answer, refused, done, slot, freed, hangs, shown, request, noneDue, dueAt, neverDue}
 use Rattle.rules.specs.declared.Block.{Block}
 
 -- the tables, and the record that holds the active head's slot or NONE_REF
@@ -155,6 +156,17 @@ under s root =
     else if not (occupied (b .sequences) root) then refuse s 3
     else answering s (hangs (length listed) (highest (b .sequences) listed))
 
+-- ---- screen
+
+-- the records of the heads in use, for a list of so many (02, S-2): m at least, however many heads are in use; the tables stay
+unfoldable pub screen : (s : State) (room : ℕ) → Stepped
+screen s room =
+    let b = s .tables .blocks in
+    let h = s .tables .heads in
+    if not (shaped (s .tables)) then refuse s 1
+    else if ltb room (headsIn (s .tables)) then refuse s 10
+    else answering s (shown (screenOf (b .hashes) (b .sequences) (h .tips) (h .tails) (h .connected)))
+
 -- ---- timer and deadline
 
 -- the chosen head's request time becomes now
@@ -196,7 +208,7 @@ pub record Sets (said : Answer) (held : BlockSlot) (left : Tables) (rule : Stepp
   pub records : held ≡ rule .after .activeHead
   pub leaves : left ≡ rule .after .tables
 
--- ---- lists of calls; fresh is not among them, nor what writes nothing: under and the deadline
+-- ---- lists of calls; fresh is not among them, nor what leaves the tables: under, screen and the deadline
 
 pub data Call : Type 0 where
   admitCall : (sequence : Sequence) (hash previous : Hash) (arrival : Time) → Call

@@ -1,6 +1,6 @@
 -- What 01 takes for granted: a choice between two, the lowest of the numbers that pass a test, the one that goes
--- before all others, how many pass, which pass, and one thing after the other.
-use mathlib.Core.Bool.{Bool, true, false}
+-- before all others, how many pass, which pass, those that pass put in an order, and one thing after the other.
+use mathlib.Core.Bool.{Bool, true, false, _||_}
 use mathlib.Core.List.{List, [], _∷_, _++_}
 use mathlib.Core.Option.{Option, none, some}
 use Prim.Native.Nat.{ℕ, zero, suc, _+_}
@@ -43,6 +43,21 @@ countBelow test (suc n) = (if test n then 1 else 0) + countBelow test n
 unfoldable pub allBelow : (test : ℕ → Bool) (n : ℕ) → List ℕ
 allBelow test zero = []
 allBelow test (suc n) = allBelow test n ++ (if test n then n ∷ [] else [])
+
+-- one of a list stands before k
+unfoldable pub anyBefore : (before : ℕ → ℕ → Bool) (k : ℕ) (list : List ℕ) → Bool
+anyBefore before k [] = false
+anyBefore before k (j ∷ js) = before j k || anyBefore before k js
+
+-- k goes in behind the last that stands before it
+unfoldable pub placed : (before : ℕ → ℕ → Bool) (k : ℕ) (list : List ℕ) → List ℕ
+placed before k [] = k ∷ []
+placed before k (j ∷ js) = if anyBefore before k (j ∷ js) then j ∷ placed before k js else k ∷ j ∷ js
+
+-- the numbers below n that pass, from 0 up, each put in its place
+unfoldable pub placedBelow : (test : ℕ → Bool) (before : ℕ → ℕ → Bool) (n : ℕ) → List ℕ
+placedBelow test before zero = []
+placedBelow test before (suc n) = if test n then placed before n (placedBelow test before n) else placedBelow test before n
 
 -- for each number below n, from 0 up
 unfoldable pub inOrder {ℓ} : {A : Type ℓ} (act : ℕ → A → A) (n : ℕ) (a : A) → A

@@ -12,6 +12,7 @@ pub mod Removal
 pub mod Promotion
 pub mod Rebuild
 pub mod Timer
+pub mod Screen
 pub mod Rank
 pub mod Answers
 pub mod Calls

@@ -1,5 +1,5 @@
 -- Demand 3 (00, and 01 "Lists of calls"): what holds after every list of calls, worked out afresh from the blocks, the
--- calls and their answers; and what hangs under a block (02, S-1), beside what `mark_subtree` lists.
+-- calls and their answers; what hangs under a block (02, S-1), beside what `mark_subtree` lists; and the head screen (02, S-2).
 use mathlib.Core.Path.{_≡_}
 use mathlib.Core.Logic.{_≢_, _⊎_, _↔_}
 use mathlib.Core.Bool.{Bool, true, not, _&&_}
@@ -7,18 +7,19 @@ use mathlib.Core.List.{List, [], _∷_, _++_}
 use mathlib.Core.Option.{Option, none, some}
 use Prim.Native.Nat.{ℕ, suc, _+_, _*_, _%_, _≤_, _<_, max}
 use lib.Dec.{eqb}
-use lib.ListN.{length, getD}
+use lib.ListN.{length, getD, replicate}
 use Rattle.rules.specs.Kinds.{BlockSlot, HeadSlot, Sequence, Time, Hash}
 use Rattle.rules.specs.Common.{if_then_else_, isAt, countBelow}
-use Rattle.rules.specs.Hashes.{hashAt}
+use Rattle.rules.specs.Hashes.{hashLength, hashAt}
 use Rattle.rules.specs.Records.{NONE, Blocks, Tables, emptyBlock, emptyHead, blockAt, headAt}
 use Rattle.rules.specs.Caches.{slotOfHead}
 use Rattle.rules.specs.Eviction.{victim}
 use Rattle.rules.specs.Admission.{oneMore, firstEmpty}
 use Rattle.rules.specs.Rebuild.{isLeaf, rebuiltBelow, headless}
-use Rattle.rules.specs.Answers.{Answer, refused, done, slot, freed, hangs, request, noneDue, dueAt, neverDue}
-use Rattle.rules.specs.Calls.{State, Call, admitCall, promoteCall, removeCall, timerCall, restartCall, step, run, shaped, blocksIn, parentFound, inserted, fresh, under}
+use Rattle.rules.specs.Answers.{Answer, refused, done, slot, freed, hangs, shown, request, noneDue, dueAt, neverDue}
+use Rattle.rules.specs.Calls.{State, Call, admitCall, promoteCall, removeCall, timerCall, restartCall, step, run, shaped, blocksIn, headsIn, parentFound, inserted, fresh, under, screen}
 use Rattle.rules.specs.BlockTable.{maxCount, markSubtree}
+use Rattle.rules.specs.declared.HeadRow.{HeadRow}
 
 -- ---- the tables, slot by slot
 
@@ -134,6 +135,7 @@ slotReturned done = none
 slotReturned (slot i) = some i
 slotReturned (freed blocks) = none
 slotReturned (hangs blocks highest) = none
+slotReturned (shown rows) = none
 slotReturned (request head claims missing) = none
 slotReturned noneDue = none
 slotReturned (dueAt time) = none
@@ -263,6 +265,66 @@ pub record Weighed (s : State) (i : BlockSlot) : Type 0 where
   -- n · n - n + 1 at most: itself, and n at each of the n - 1 levels below
   pub atMost : number + blocksIn (s .tables) ≤ blocksIn (s .tables) * blocksIn (s .tables) + 1
 
+-- ---- the head screen (02, S-2)
+
+-- the sequence of a head's tip; NONE_REF where the tip is empty or out of range
+abbrev pub tipSequence : (s : State) (k : HeadSlot) → Sequence
+tipSequence s k = sequence s (tip s k)
+
+-- the hash that a head sorts with: its tip's, or zeros where the tip is empty or out of range
+pub record SortsWith (s : State) (k : HeadSlot) (hash : Hash) : Type 0 where
+  pub ofTip : Occupied s (tip s k) → hash ≡ hashAt (s .tables .blocks .hashes) (tip s k)
+  pub orZero : ¬ (Occupied s (tip s k)) → hash ≡ replicate hashLength 0
+
+-- a hash is lower by the first byte that differs
+pub data Lower : Hash → Hash → Type 0 where
+  here : (x y : ℕ) (xs ys : List ℕ) (lower : x < y) → Lower (x ∷ xs) (y ∷ ys)
+  behind : (x : ℕ) (xs ys : List ℕ) (lower : Lower xs ys) → Lower (x ∷ xs) (x ∷ ys)
+
+-- by tip sequence, highest first, then by lowest hash, then by lowest head slot
+pub data StandsBefore (s : State) (j k : HeadSlot) : Type 0 where
+  bySequence : (higher : tipSequence s k < tipSequence s j) → StandsBefore s j k
+  byHash : (same : tipSequence s j ≡ tipSequence s k) (a b : Hash) (first : SortsWith s j a) (second : SortsWith s k b) (lower : Lower a b)
+      → StandsBefore s j k
+  bySlot : (same : tipSequence s j ≡ tipSequence s k) (a : Hash) (first : SortsWith s j a) (second : SortsWith s k a) (lower : j < k)
+      → StandsBefore s j k
+
+-- neighbours are in order
+pub data Ordered (s : State) : List HeadSlot → Type 0 where
+  nobody : Ordered s []
+  alone : (k : HeadSlot) → Ordered s (k ∷ [])
+  follows : (j k : HeadSlot) (ks : List HeadSlot) (before : StandsBefore s j k) (rest : Ordered s (k ∷ ks)) → Ordered s (j ∷ k ∷ ks)
+
+-- how often a head stands in a list
+unfoldable pub times : (k : HeadSlot) (list : List HeadSlot) → ℕ
+times k [] = 0
+times k (j ∷ js) = (if eqb j k then 1 else 0) + times k js
+
+-- a record has what a head keeps, tip, kind and anchor, and the sequence of its tip
+pub record RowOf (s : State) (k : HeadSlot) (row : HeadRow) : Type 0 where
+  pub tips : row .tip .0 ≡ tip s k
+  pub sequences : row .sequence .0 ≡ tipSequence s k
+  pub connected : Connected s k → row .kind .0 ≡ 1
+  pub stored : ¬ (Connected s k) → row .kind .0 ≡ 0
+  pub anchors : row .anchor .0 ≡ anchor s k
+
+-- a record for each head of a list
+pub data RowsOf (s : State) : List HeadSlot → List HeadRow → Type 0 where
+  noRows : RowsOf s [] []
+  andRow : (k : HeadSlot) (row : HeadRow) (ks : List HeadSlot) (rows : List HeadRow) (own : RowOf s k row) (rest : RowsOf s ks rows)
+      → RowsOf s (k ∷ ks) (row ∷ rows)
+
+-- what the call answers, of a table of a right shape and a list that is long enough
+pub record OnScreen (s : State) (room : ℕ) : Type 0 where
+  pub heads : List HeadSlot
+  pub rows : List HeadRow
+  pub answers : screen s room .answer ≡ shown rows
+  pub recorded : RowsOf s heads rows
+  -- each head in use stands exactly once, and no other
+  pub once : (k : HeadSlot) → InUse s k → times k heads ≡ 1
+  pub others : (k : HeadSlot) → ¬ (InUse s k) → times k heads ≡ 0
+  pub ordered : Ordered s heads
+
 -- ---- what is proved
 
 -- demand 3: every list of calls from what an accepted fresh left
@@ -283,3 +345,7 @@ UnderReached = (s : State) → Accepted (fresh s .answer) → (calls : List Call
 -- and of every table of a right shape, damaged or not
 abbrev pub UnderAny : Type 0
 UnderAny = (s : State) → shaped (s .tables) ≡ true → (i : BlockSlot) → Occupied s i → Weighed s i
+
+-- S-2: of every table of a right shape, and every list that has a place for each head slot
+abbrev pub ScreenAny : Type 0
+ScreenAny = (s : State) → shaped (s .tables) ≡ true → (room : ℕ) → headsIn (s .tables) ≤ room → OnScreen s room

@@ -2,15 +2,20 @@
 ghost use mathlib.Core.Path.{_≡_};
 ghost use Rattle.rules.specs.Records.{emptyBlock, emptyHead};
 
-// A place in the block table; laid out for C, as the record of the active head holds one.
+// A place in the block table; laid out for C, as the record of the active head and those of the head screen hold one.
 #[repr(C)]
 pub struct BlockSlot(pub u32);
 
 // A place in the head table.
 pub struct HeadSlot(pub u32);
 
-// A block's sequence number.
+// A block's sequence number; laid out for C, as a record of the head screen holds one.
+#[repr(C)]
 pub struct Sequence(pub u32);
+
+// Whether a head is connected or stored; laid out for C, as a record of the head screen holds one.
+#[repr(C)]
+pub struct HeadKind(pub u32);
 
 // No block, no head, and the sequence of an empty slot: one number, and a constant of each type.
 impl BlockSlot {
@@ -23,6 +28,12 @@ impl HeadSlot {
 
 impl Sequence {
     pub const NONE_REF: Sequence = Sequence(4294967295);
+}
+
+impl HeadKind {
+    pub const STORED: HeadKind = HeadKind(0);
+
+    pub const CONNECTED: HeadKind = HeadKind(1);
 }
 
 // A block: bit 0 of its flags says that it is on the active chain, bits 1 and 2 are its status.
@@ -160,6 +171,7 @@ pub enum Refusal {
     Full,
     NotNext,
     HoldsActive,
+    ShortList,
 }
 
 // The answer of fresh, promote and restart.
@@ -195,6 +207,21 @@ pub enum Removed {
 // The answer of under: how many blocks hang under a block, itself among them, and the highest sequence among them.
 pub enum Hanging {
     Blocks(u32, Sequence),
+    Refused(Refusal),
+}
+
+// A record of the head screen: a head's tip, the tip's sequence, which is NONE_REF where the tip is empty, its kind and its anchor.
+#[repr(C)]
+pub struct HeadRow {
+    pub tip: BlockSlot,
+    pub sequence: Sequence,
+    pub kind: HeadKind,
+    pub anchor: BlockSlot,
+}
+
+// The answer of screen: how many records there are; the records stand beside it.
+pub enum Screened {
+    Rows(u32),
     Refused(Refusal),
 }
 

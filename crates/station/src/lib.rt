@@ -4,4 +4,5 @@ pub mod look;
 pub mod record;
 pub mod recover;
 pub mod restore;
+pub mod screen;
 pub mod tree;

@@ -19,6 +19,8 @@ A line is a letter and its fields, each after one space. It prints:
   D slot        D and how many blocks are freed: this one and all that follow it
   U slot        U, how many blocks hang under the slot, its own among them, and
                 the highest sequence among them
+  V             V, tip, its sequence, state and anchor for each head in use, the
+                highest sequence first and of equal ones the lowest hash
   T now retry   T, the head to ask for, the claimed sequence and the missing
                 hash; T - where no head is due
   R now         R; heads and counts are made anew from the blocks
@@ -39,6 +41,7 @@ A refused call prints E and a number, and changes nothing:
   E 7   no block slot is empty
   E 8   the block's parent is not the active head
   E 9   the slot's subtree has a block on the active chain
+  E 10  a list is too short for the heads, which no line can ask for
 
 A line that cannot be read prints ? and changes nothing; standard error has its
 number and the reason. At the end the tables are listed, with - for none:

@@ -9,6 +9,7 @@ use trial_calls::tell_fresh;
 use trial_calls::tell_promote;
 use trial_calls::tell_remove;
 use trial_calls::tell_restart;
+use trial_calls::tell_screen;
 use trial_calls::tell_timer;
 use trial_calls::tell_under;
 use trial_calls::tell_unread;
@@ -123,6 +124,22 @@ pub fn answer(
             connected,
             active,
             slot,
+            out,
+            at,
+        ),
+        Line::Screen => tell_screen(
+            hashes,
+            parents,
+            sequences,
+            counts,
+            flags,
+            tips,
+            tails,
+            missing,
+            requested,
+            arrivals,
+            connected,
+            active,
             out,
             at,
         ),

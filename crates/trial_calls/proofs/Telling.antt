@@ -13,15 +13,15 @@ use Rattle.rules.specs.Records.{Tables, NONE, occupied}
 use Rattle.rules.specs.BlockTable.{find, nextFree}
 use Rattle.rules.specs.Timer.{Ask, spanOr, recovery}
 use Rattle.rules.specs.Answers.{Answer}
-use Rattle.rules.specs.Calls.{State, Stepped, stateOf, shaped, fresh, admit, promote, remove, holdsActive, under, asked, timer, restart, step}
+use Rattle.rules.specs.Calls.{State, Stepped, stateOf, shaped, headsIn, fresh, admit, promote, remove, holdsActive, under, screen, asked, timer, restart, step}
 use Rattle.rules.specs.declared.BlockSlot.{BlockSlot}
 use Rattle.rules.specs.declared.Sequence.{Sequence}
 use Rattle.rules.proofs.Splits.{split, option?}
-use Rattle.rules.proofs.Refusals.{under-keeps}
+use Rattle.rules.proofs.Refusals.{under-keeps, screen-keeps}
 use Rattle.trial_lines.specs.Writing.{place, letterLine, numberLine}
 use Rattle.trial_lines.specs.Said.{said}
 use Rattle.trial_lines.specs.declared.Line.{Line}
-use Rattle.trial_lines.specs.declared.Line.the-variants.{Fresh, Admit, Promote, Remove, Under, Timer, Restart, Unread}
+use Rattle.trial_lines.specs.declared.Line.the-variants.{Fresh, Admit, Promote, Remove, Under, Screen, Timer, Restart, Unread}
 use Rattle.trial_lines.proofs.Places.{Put}
 use Rattle.trial_calls.specs.Calling.{called, doneSaid, lineSaid, isRefused, renews, Tells}
 
@@ -120,6 +120,13 @@ pub under-tells : {s : State} {slot : BlockSlot} {out written : List ℕ} {at ne
     → Tells s (Under slot) out at (stateOf t (s .activeHead)) false written next
 unfolding called doneSaid renews
 under-tells {s} {slot} e f i = tells refl e f (ap (λ (x : State). x .activeHead) (sym (under-keeps s (slot .0)))) refl i
+
+pub screen-tells : {s : State} {out written : List ℕ} {at next : ℕ} {t : Tables} {answer : Answer}
+    → answer ≡ screen s (headsIn (s .tables)) .answer → t ≡ screen s (headsIn (s .tables)) .after .tables
+    → Put out at (said [] answer) written next
+    → Tells s Screen out at (stateOf t (s .activeHead)) false written next
+unfolding called doneSaid renews
+screen-tells {s} e f i = tells refl e f (ap (λ (x : State). x .activeHead) (sym (screen-keeps s (headsIn (s .tables))))) refl i
 
 pub timer-tells : {s : State} {clock retry : ℕ} {out written : List ℕ} {at next : ℕ} {t : Tables} {answer : Answer}
     → answer ≡ timer s clock (some retry) .answer → t ≡ timer s clock (some retry) .after .tables

@@ -1,12 +1,14 @@
 // The calls of a trial's lines, a function for each letter, on the tables that they are given. What each prints goes into a lent
 // buffer, from a place on.
+mod screen;
+
 ghost use mathlib.Core.Path.{_≡_};
 ghost use mathlib.Core.Bool.{not};
 ghost use Prim.Native.Nat.{ℕ};
 ghost use Rattle.rules.specs.Records.{Tables, before, after};
 ghost use Rattle.rules.specs.Answers.{outcomeSaid};
 ghost use Rattle.rules.specs.Calls.{stateOf};
-ghost use Rattle.trial_lines.specs.declared.Line.the-variants.{Fresh, Admit, Promote, Remove, Under, Timer, Restart, Unread};
+ghost use Rattle.trial_lines.specs.declared.Line.the-variants.{Fresh, Admit, Promote, Remove, Under, Screen, Timer, Restart, Unread};
 ghost use Rattle.trial_calls.specs.Calling.{isRefused, Tells};
 use admit_call::admit;
 use fresh_call::fresh;
@@ -17,6 +19,8 @@ use rules::BlockSlot;
 use rules::Outcome;
 use rules::Sequence;
 use rules::Span;
+use screen::screen_lines;
+use screen_call::screen;
 use timer_call::timer;
 use trial_lines::answers::admit_line;
 use trial_lines::answers::fresh_line;
@@ -279,6 +283,52 @@ pub fn tell_under(
         active,
         renewed: false,
         at: under_line(out, at, answer),
+    }
+}
+
+// Asks for the screen, with room for every head, and prints a line for each of its records, or the refusal.
+pub fn tell_screen(
+    hashes: &[u8],
+    parents: &[u32],
+    sequences: &[u32],
+    counts: &[u8],
+    flags: &[u8],
+    tips: &[u32],
+    tails: &[u32],
+    missing: &[u8],
+    requested: &[u64],
+    arrivals: &[u64],
+    connected: &[u8],
+    active: BlockSlot,
+    out: &mut [u8],
+    at: usize,
+) -> Told
+    ensures { λ r. ⌜ Tells
+        (stateOf (before hashes parents sequences counts flags tips tails missing requested arrivals connected) (active .0))
+        Screen (now (out .entry)) at
+        (stateOf (after hashes parents sequences counts flags tips tails missing requested arrivals connected) (r .active .0))
+        (r .renewed) (now (out .exit)) (r .at) ⌝ }
+{
+    let listed = screen(
+        hashes,
+        parents,
+        sequences,
+        counts,
+        flags,
+        tips,
+        tails,
+        missing,
+        requested,
+        arrivals,
+        connected,
+        tips.len(),
+    );
+    let answer = listed.screened;
+    let heads = listed.heads;
+    Told {
+        active,
+        renewed: false,
+        at: screen_lines(sequences, tips, tails, connected, heads, answer, out, at),
     }
 }
 

@@ -1,11 +1,13 @@
--- The pieces of each line.
+-- The pieces of each line, and of the lines of a screen.
 use mathlib.Core.Path.{_≡_}
 use mathlib.Core.Bool.{Bool}
-use mathlib.Core.List.{List, [], _∷_, flatten}
+use mathlib.Core.List.{List, [], _∷_, _++_, flatten, append-nil, append-assoc}
 use Prim.Native.Nat.{ℕ}
+use lib.Dec.{eqb}
 use Rattle.rules.specs.Common.{if_then_else_}
-use Rattle.trial_lines.specs.Writing.{hex, field, reference, letterLine, numberLine, hangingLine, requestLine, noneDueLine, blockLine, headLine}
-use Rattle.trial_lines.proofs.Places.{Put, Puts, puts-put}
+use Rattle.rules.specs.declared.HeadRow.{HeadRow}
+use Rattle.trial_lines.specs.Writing.{hex, field, reference, letterLine, numberLine, hangingLine, rowLine, rowsLines, requestLine, noneDueLine, blockLine, headLine}
+use Rattle.trial_lines.proofs.Places.{Put, Puts, put-none, put-then, puts-put}
 
 module _ (l m : List ℕ) (at r : ℕ) where
   pub letter-pieces : (letter : ℕ) → Puts l at ((letter ∷ []) ∷ (10 ∷ []) ∷ []) m r → Put l at (letterLine letter) m r
@@ -21,6 +23,13 @@ module _ (l m : List ℕ) (at r : ℕ) where
       → Put l at (hangingLine blocks highest) m r
   unfolding hangingLine flatten
   hanging-pieces blocks highest p = puts-put l m at r _ p
+
+  pub row-pieces : (row : HeadRow) (mark : ℕ)
+      → Puts l at ((86 ∷ []) ∷ reference (row .tip .0) ∷ reference (row .sequence .0) ∷ (32 ∷ []) ∷ (mark ∷ []) ∷ reference (row .anchor .0) ∷ (10 ∷ []) ∷ []) m r
+      → mark ≡ (if eqb (row .kind .0) 1 then 67 else 83)
+      → Put l at (rowLine row) m r
+  unfolding rowLine flatten
+  row-pieces row mark p e = rw (← e) (puts-put l m at r _ p)
 
   pub request-pieces : (head claimed hash : ℕ)
       → Puts l at ((84 ∷ []) ∷ field head ∷ field claimed ∷ (32 ∷ []) ∷ hex hash ∷ (10 ∷ []) ∷ []) m r
@@ -45,3 +54,18 @@ module _ (l m : List ℕ) (at r : ℕ) where
       → Put l at (headLine slot tip connected anchor) m r
   unfolding headLine flatten
   head-pieces slot tip connected anchor mark p e = rw (← e) (puts-put l m at r _ p)
+
+-- ---- a screen, record after record
+
+rows-last : (rows : List HeadRow) (row : HeadRow) → rowsLines (rows ++ row ∷ []) ≡ rowsLines rows ++ rowLine row
+unfolding rowsLines
+rows-last [] row = append-nil (rowLine row)
+rows-last (first ∷ rows) row = rw (rows-last rows row, append-assoc (rowLine first) (rowsLines rows) (rowLine row))
+
+pub rows-none : (l : List ℕ) (at : ℕ) → Put l at (rowsLines []) l at
+unfolding rowsLines
+rows-none l at = put-none l at
+
+pub rows-next : (l m o : List ℕ) (rows : List HeadRow) (row : HeadRow) (at r s : ℕ)
+    → Put l at (rowsLines rows) m r → Put m r (rowLine row) o s → Put l at (rowsLines (rows ++ row ∷ [])) o s
+rows-next l m o rows row at r s e f = rw (rows-last rows row) (put-then l m o (rowsLines rows) (rowLine row) at r s e f)

@@ -9,7 +9,7 @@ use borrow.Author.Tests.{le-leb, ltb-true}
 use lib.Dec.{ltb, leb}
 use lib.ListN.{length, length-append}
 use Rattle.rules.proofs.Splits.{split, and-both}
-use Rattle.trial_lines.specs.Reading.{isDigit, allDigits, valueFrom, number, timeMost}
+use Rattle.trial_lines.specs.Reading.{isDigit, allDigits, valueFrom, number, wordMost, timeMost}
 use Rattle.trial_lines.specs.Writing.{digit, digitsIn, digits}
 use Rattle.trial_lines.proofs.Bytes.{number-is}
 
@@ -53,6 +53,10 @@ digits-value (suc places) n h =
     (λ e. let l = ltb-true n 10 e in rw e (omega arith))
     (λ e. let s = digits-value places (n / 10) (omega arith) in
     rw e (value-append 0 (digitsIn places (n / 10)) (digit n) ∙ rw s (omega arith)))
+
+-- in a field, which has fewer places
+pub word-read-back : (n : ℕ) → n ≤ wordMost → number wordMost (digitsIn 10 n) ≡ some n
+word-read-back n h = number-is wordMost (digitsIn 10 n) n (digits-some 9 n) (digits-all 10 n) (digits-value 10 n (omega arith)) h
 
 pub read-back : (n : ℕ) → n ≤ timeMost → number timeMost (digits n) ≡ some n
 unfolding digits

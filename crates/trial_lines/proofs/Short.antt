@@ -1,14 +1,15 @@
 -- Each line that is written fits a buffer of 96 bytes.
 use mathlib.Core.Path.{_≡_, refl}
 use mathlib.Core.Bool.{Bool}
-use mathlib.Core.List.{[], _∷_}
-use Prim.Native.Nat.{ℕ, zero, suc, _/_, _≤_}
+use mathlib.Core.List.{List, [], _∷_}
+use Prim.Native.Nat.{ℕ, zero, suc, _*_, _/_, _≤_}
 use native.Mathlib.Omega.{arith}
 use lib.Dec.{eqb, ltb}
 use lib.ListN.{length, length-append}
 use Rattle.rules.specs.Records.{NONE}
+use Rattle.rules.specs.declared.HeadRow.{HeadRow}
 use Rattle.rules.proofs.Splits.{split}
-use Rattle.trial_lines.specs.Writing.{digit, digitsIn, digits, hex, field, reference, numberLine, hangingLine, requestLine, blockLine, headLine}
+use Rattle.trial_lines.specs.Writing.{digit, digitsIn, hex, field, reference, numberLine, hangingLine, rowLine, rowsLines, requestLine, blockLine, headLine}
 
 pub digits-short : (places n : ℕ) → length (digitsIn places n) ≤ places
 unfolding digitsIn
@@ -18,11 +19,11 @@ digits-short (suc places) n =
     (λ e. rw e (omega arith))
     (λ e. rw e (let h = digits-short places (n / 10) in omega (arith, length-append (digitsIn places (n / 10)) (digit n ∷ []))))
 
-field-short : (n : ℕ) → length (field n) ≤ 21
-unfolding field digits
-field-short n = let h = digits-short 20 n in omega arith
+field-short : (n : ℕ) → length (field n) ≤ 11
+unfolding field
+field-short n = let h = digits-short 10 n in omega arith
 
-reference-short : (n : ℕ) → length (reference n) ≤ 21
+reference-short : (n : ℕ) → length (reference n) ≤ 11
 unfolding reference
 reference-short n = split (eqb n NONE) (λ e. rw e (omega arith)) (λ e. rw e (field-short n))
 
@@ -37,6 +38,16 @@ number-short letter n = simp length-append (omega (arith, field-short n))
 pub hanging-short : (blocks highest : ℕ) → length (hangingLine blocks highest) ≤ 96
 unfolding hangingLine
 hanging-short blocks highest = simp length-append (omega (arith, field-short blocks, field-short highest))
+
+row-short : (row : HeadRow) → length (rowLine row) ≤ 37
+unfolding rowLine
+row-short row =
+    simp length-append (omega (arith, reference-short (row .tip .0), reference-short (row .sequence .0), reference-short (row .anchor .0)))
+
+pub rows-short : (rows : List HeadRow) → length (rowsLines rows) ≤ 37 * length rows
+unfolding rowsLines
+rows-short [] = omega arith
+rows-short (row ∷ rows) = omega (arith, length-append (rowLine row) (rowsLines rows), row-short row, rows-short rows)
 
 pub request-short : (head claimed hash : ℕ) → length (requestLine head claimed hash) ≤ 96
 unfolding requestLine

@@ -36,4 +36,4 @@ begunOf line begun = if leb begun lineMost then soFar (take begun line) else too
 
 -- how many bytes are taken at once
 abbrev pub chunkMost : ℕ
-chunkMost = 8192
+chunkMost = 2048

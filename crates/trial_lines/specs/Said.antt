@@ -3,8 +3,8 @@
 use mathlib.Core.List.{List, []}
 use Prim.Native.Nat.{ℕ}
 use lib.ListN.{getD}
-use Rattle.rules.specs.Answers.{Answer, refused, done, slot, freed, hangs, request, noneDue, dueAt, neverDue}
-use Rattle.trial_lines.specs.Writing.{numberLine, hangingLine, requestLine, noneDueLine}
+use Rattle.rules.specs.Answers.{Answer, refused, done, slot, freed, hangs, shown, request, noneDue, dueAt, neverDue}
+use Rattle.trial_lines.specs.Writing.{numberLine, hangingLine, rowsLines, requestLine, noneDueLine}
 
 -- a hash is one byte 32 times, so its first says all; no line asks for a deadline
 abbrev pub said : (whenDone : List ℕ) (answer : Answer) → List ℕ
@@ -13,6 +13,7 @@ said whenDone done = whenDone
 said whenDone (slot new) = numberLine 65 new
 said whenDone (freed blocks) = numberLine 68 blocks
 said whenDone (hangs blocks highest) = hangingLine blocks highest
+said whenDone (shown rows) = rowsLines rows
 said whenDone (request head claimed missing) = requestLine head claimed (getD missing 0 0)
 said whenDone noneDue = noneDueLine
 said whenDone (dueAt time) = []

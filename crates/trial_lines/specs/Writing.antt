@@ -6,6 +6,7 @@ use lib.Dec.{eqb, ltb}
 use Rattle.rules.specs.Kinds.{BlockSlot, HeadSlot, Sequence}
 use Rattle.rules.specs.Common.{if_then_else_}
 use Rattle.rules.specs.Records.{NONE}
+use Rattle.rules.specs.declared.HeadRow.{HeadRow}
 
 -- the place after k bytes from a place of a buffer on: its end, where they have no room
 unfoldable pub place : (room at k : ℕ) → ℕ
@@ -35,12 +36,13 @@ hex byte = hexChar (byte / 16 % 16) ∷ hexChar (byte % 16) ∷ []
 
 -- ---- fields, each after a space
 
+-- a number of 32 bits has at most 10 digits
 unfoldable pub field : (n : ℕ) → List ℕ
-field n = 32 ∷ digits n
+field n = 32 ∷ digitsIn 10 n
 
--- - is none
-unfoldable pub reference : (slot : BlockSlot) → List ℕ
-reference slot = if eqb slot NONE then 32 ∷ 45 ∷ [] else field slot
+-- a slot or a sequence; - is none
+unfoldable pub reference : (n : ℕ) → List ℕ
+reference n = if eqb n NONE then 32 ∷ 45 ∷ [] else field n
 
 -- ---- lines
 
@@ -53,6 +55,16 @@ numberLine letter n = letter ∷ (field n ++ 10 ∷ [])
 -- U blocks highest
 unfoldable pub hangingLine : (blocks : ℕ) (highest : Sequence) → List ℕ
 hangingLine blocks highest = 85 ∷ (field blocks ++ (field highest ++ 10 ∷ []))
+
+-- V tip sequence C-or-S anchor, of a record of the screen
+unfoldable pub rowLine : (row : HeadRow) → List ℕ
+rowLine row =
+    86 ∷ (reference (row .tip .0) ++ (reference (row .sequence .0) ++ 32 ∷ (if eqb (row .kind .0) 1 then 67 else 83) ∷ (reference (row .anchor .0) ++ 10 ∷ [])))
+
+-- one after the other
+unfoldable pub rowsLines : (rows : List HeadRow) → List ℕ
+rowsLines [] = []
+rowsLines (row ∷ rows) = rowLine row ++ rowsLines rows
 
 -- T head claimed hash
 unfoldable pub requestLine : (head : HeadSlot) (claimed : Sequence) (hash : ℕ) → List ℕ

@@ -14,7 +14,7 @@ use rules::BlockSlot;
 use rules::Sequence;
 
 // How many bytes of input are taken at once.
-pub const CHUNK: usize = 8192;
+pub const CHUNK: usize = 2048;
 
 // What a line asks for. A hash is the byte that it has 32 times.
 pub enum Line {
@@ -23,6 +23,7 @@ pub enum Line {
     Promote(BlockSlot),
     Remove(BlockSlot),
     Under(BlockSlot),
+    Screen,
     Timer(u64, u64),
     Restart(u64),
     Unread,

@@ -3,12 +3,14 @@ ghost use mathlib.Core.Path.{_≡_};
 ghost use lib.ListN.{length};
 ghost use lib.Seq.{sets};
 ghost use Rattle.rules.specs.Common.{if_then_else_};
-ghost use Rattle.trial_lines.specs.Writing.{place, numberLine, hangingLine, requestLine, noneDueLine, letterLine, blockLine, headLine};
+ghost use Rattle.trial_lines.specs.Writing.{place, numberLine, hangingLine, rowLine, requestLine, noneDueLine, letterLine, blockLine, headLine};
 use crate::text::put;
 use crate::text::put_field;
 use crate::text::put_hex;
 use crate::text::put_reference;
 use rules::BlockSlot;
+use rules::HeadKind;
+use rules::HeadRow;
 use rules::HeadSlot;
 use rules::Sequence;
 
@@ -46,6 +48,24 @@ pub fn hanging_line(out: &mut [u8], at: usize, blocks: u32, highest: Sequence) -
     let b = put_field(out, a, blocks);
     let c = put_field(out, b, highest.0);
     put(out, c, b'\n')
+}
+
+// A record of the screen: `V`, tip, sequence, `C` for connected or `S` for stored, and anchor; `-` is none.
+pub fn row_line(out: &mut [u8], at: usize, row: HeadRow) -> usize
+    ensures { λ r. ⌜ (now (out .exit) ≡ sets (now (out .entry)) at (rowLine row))
+        × (r ≡ place (length (now (out .entry))) at (length (rowLine row))) ⌝ }
+{
+    let a = put(out, at, b'V');
+    let b = put_reference(out, a, row.tip.0);
+    let c = put_reference(out, b, row.sequence.0);
+    let d = put(out, c, b' ');
+    let e = put(
+        out,
+        d,
+        pick(row.kind.0 == HeadKind::CONNECTED.0, b'C', b'S'),
+    );
+    let f = put_reference(out, e, row.anchor.0);
+    put(out, f, b'\n')
 }
 
 // A timer's request: the head, the claimed sequence, and the hash by its byte.
@@ -88,7 +108,7 @@ pub fn block_line(
     let a = put(out, at, b'B');
     let b = put_field(out, a, slot.0);
     let c = put_field(out, b, sequence.0);
-    let d = put_reference(out, c, parent);
+    let d = put_reference(out, c, parent.0);
     let e = put_field(out, d, count as u32);
     let f = put(out, e, b' ');
     let g = put(out, f, pick(active, b'1', b'0'));
@@ -109,9 +129,9 @@ pub fn head_line(
 {
     let a = put(out, at, b'H');
     let b = put_field(out, a, slot.0);
-    let c = put_reference(out, b, tip);
+    let c = put_reference(out, b, tip.0);
     let d = put(out, c, b' ');
     let e = put(out, d, pick(connected, b'C', b'S'));
-    let f = put_reference(out, e, anchor);
+    let f = put_reference(out, e, anchor.0);
     put(out, f, b'\n')
 }

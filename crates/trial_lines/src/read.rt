@@ -1,6 +1,6 @@
 // A line read: its letter says which fields follow.
 ghost use mathlib.Core.Path.{_≡_};
-ghost use Rattle.trial_lines.specs.Reading.{freshOf, admitOf, promoteOf, removeOf, underOf, timerOf, restartOf, parse};
+ghost use Rattle.trial_lines.specs.Reading.{freshOf, admitOf, promoteOf, removeOf, underOf, screenRead, timerOf, restartOf, parse};
 use crate::Byte;
 use crate::Line;
 use crate::Time;
@@ -73,6 +73,16 @@ fn read_under(fields: &[u8]) -> Line
     }
 }
 
+// V has no field: the line is its letter.
+fn read_screen(line: &[u8]) -> Line
+    ensures { λ r. ⌜ r ≡ screenRead (now (line .entry)) ⌝ }
+{
+    if line.len() == 1 {
+        return Line::Screen;
+    }
+    Line::Unread
+}
+
 fn read_timer(fields: &[u8]) -> Line
     ensures { λ r. ⌜ r ≡ timerOf (now (fields .entry)) ⌝ }
 {
@@ -94,7 +104,7 @@ fn read_restart(fields: &[u8]) -> Line
     }
 }
 
-// What the line asks for: N, A, P, D, U, T or R with its fields; anything else is unread.
+// What the line asks for: N, A, P, D, U, T or R with its fields, or V alone; anything else is unread.
 pub fn read_line(line: &[u8]) -> Line
     ensures { λ r. ⌜ r ≡ parse (now (line .entry)) ⌝ }
 {
@@ -114,6 +124,9 @@ pub fn read_line(line: &[u8]) -> Line
     }
     if kind == b'U' {
         return read_under(fields);
+    }
+    if kind == b'V' {
+        return read_screen(line);
     }
     if kind == b'T' {
         return read_timer(fields);

@@ -79,23 +79,23 @@ pub fn put_hex(out: &mut [u8], at: usize, byte: u8) -> usize
     put(out, next, hex_char(byte))
 }
 
-// A space, and a number.
+// A space, and a number, which has at most 10 digits.
 pub fn put_field(out: &mut [u8], at: usize, n: u32) -> usize
     ensures { λ r. ⌜ (now (out .exit) ≡ sets (now (out .entry)) at (field n))
         × (r ≡ place (length (now (out .entry))) at (length (field n))) ⌝ }
 {
     let next = put(out, at, b' ');
-    put_number(out, next, n as u64)
+    put_digits(out, next, n as u64, 10)
 }
 
-// A space, and a slot: `-` is none.
-pub fn put_reference(out: &mut [u8], at: usize, slot: BlockSlot) -> usize
-    ensures { λ r. ⌜ (now (out .exit) ≡ sets (now (out .entry)) at (reference (slot .0)))
-        × (r ≡ place (length (now (out .entry))) at (length (reference (slot .0)))) ⌝ }
+// A space, and a slot or a sequence: `-` is none.
+pub fn put_reference(out: &mut [u8], at: usize, n: u32) -> usize
+    ensures { λ r. ⌜ (now (out .exit) ≡ sets (now (out .entry)) at (reference n))
+        × (r ≡ place (length (now (out .entry))) at (length (reference n))) ⌝ }
 {
-    if slot.0 == BlockSlot::NONE_REF.0 {
+    if n == BlockSlot::NONE_REF.0 {
         let next = put(out, at, b' ');
         return put(out, next, b'-');
     }
-    put_field(out, at, slot.0)
+    put_field(out, at, n)
 }

@@ -18,7 +18,7 @@ pub note-pieces : (l m : List ℕ) (at r number : ℕ) (why : Reason)
 unfolding noteText flatten
 note-pieces l m at r number why p = puts-put l m at r _ p
 
-reason-short : (why : Reason) → length (reasonText why) ≤ 40
+reason-short : (why : Reason) → length (reasonText why) ≤ 48
 unfolding bytesFrom bytes reasonText
 reason-short TooLong = omega arith
 reason-short Empty = omega arith

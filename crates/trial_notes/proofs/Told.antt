@@ -1,6 +1,6 @@
 -- A line has a fault exactly where it is unread, so that a note is written exactly where `?` is printed.
 use mathlib.Core.Path.{_≡_, refl, sym, ap, _∙_}
-use mathlib.Core.Bool.{Bool, true, false, _&&_}
+use mathlib.Core.Bool.{Bool, true, false, _&&_, _||_}
 use mathlib.Core.List.{List, [], _∷_}
 use mathlib.Core.Option.{Option, none, some}
 use Prim.Native.Nat.{ℕ, zero, suc, _+_, _-_, _<_}
@@ -12,11 +12,11 @@ use lib.Seq.{getD-drop}
 use Rattle.rules.specs.Common.{isSome}
 use Rattle.rules.proofs.Splits.{split, true-not-false, and-true, and-false-r}
 use Rattle.trial_lines.specs.Begun.{Begun, soFar, tooLong, lineBegun}
-use Rattle.trial_lines.specs.Reading.{fieldLength, first, rest, letter, isDigit, allDigits, number, wordMost, timeMost, hashByte, freshRead, admitRead, timerRead, freshOf, admitOf, promoteOf, removeOf, underOf, timerOf, restartOf, parse}
+use Rattle.trial_lines.specs.Reading.{fieldLength, first, rest, letter, isDigit, allDigits, number, wordMost, timeMost, hashByte, freshRead, admitRead, timerRead, freshOf, admitOf, promoteOf, removeOf, underOf, screenRead, timerOf, restartOf, parse}
 use Rattle.trial_lines.specs.declared.Line.{Line}
-use Rattle.trial_lines.specs.declared.Line.the-variants.{Fresh, Admit, Promote, Remove, Under, Timer, Restart, Unread}
+use Rattle.trial_lines.specs.declared.Line.the-variants.{Fresh, Admit, Promote, Remove, Under, Screen, Timer, Restart, Unread}
 use Rattle.trial_lines.proofs.Bytes.{number-empty, number-not}
-use Rattle.trial_notes.specs.Faults.{isNothing, unless, found, numberFault, wordFault, timeFault, hashReason, hashFault, inner, last, freshFault, admitFault, timerFault, letterFault, fieldsFault, lastByte, faultOf}
+use Rattle.trial_notes.specs.Faults.{isNothing, unless, found, numberFault, wordFault, timeFault, hashReason, hashFault, inner, last, freshFault, admitFault, timerFault, screenFault, letterFault, fieldsFault, lastByte, faultOf}
 use Rattle.trial_notes.specs.Notes.{begunFault}
 use Rattle.trial_notes.specs.declared.Reason.{Reason}
 use Rattle.trial_notes.specs.declared.Fault.{Fault}
@@ -28,6 +28,7 @@ isRead (Admit sequence hash previous arrival) = true
 isRead (Promote slot) = true
 isRead (Remove slot) = true
 isRead (Under slot) = true
+isRead Screen = true
 isRead (Timer now retry) = true
 isRead (Restart now) = true
 isRead Unread = false
@@ -173,6 +174,13 @@ under-told : (fields : List ℕ) → isNothing (last wordFault fields) ≡ isRea
 unfolding underOf
 under-told fields = last-number wordMost _ fields ∙ one-read (λ k. Under (record { 0 = k })) (λ k. refl) (number wordMost fields)
 
+screen-told : (line : List ℕ) → isNothing (screenFault line) ≡ isRead (screenRead line)
+unfolding screenFault screenRead
+screen-told line =
+    split (eqb (length line) 1)
+    (λ e. rw e)
+    (λ e. split (eqb (getD line 2 0) 32) (λ f. rw (e, f)) (λ f. rw (e, f)))
+
 restart-told : (fields : List ℕ) → isNothing (last timeFault fields) ≡ isRead (restartOf fields)
 unfolding restartOf
 restart-told fields = last-number timeMost _ fields ∙ one-read Restart (λ k. refl) (number timeMost fields)
@@ -190,13 +198,15 @@ fields-told line =
     (λ e. rw (a, b, c, e) (remove-told (rest line)))
     (λ d. split (eqb (letter line) 85)
     (λ e. rw (a, b, c, d, e) (under-told (rest line)))
-    (λ f. split (eqb (letter line) 84)
-    (λ e. rw (a, b, c, d, f, e) (timer-told (rest line)))
-    (λ g. split (eqb (letter line) 82)
-    (λ e. rw (a, b, c, d, f, g, e) (restart-told (rest line)))
-    (λ e. rw (a, b, c, d, f, g, e))))))))
+    (λ f. split (eqb (letter line) 86)
+    (λ e. rw (a, b, c, d, f, e) (screen-told line))
+    (λ g. split (eqb (letter line) 84)
+    (λ e. rw (a, b, c, d, f, g, e) (timer-told (rest line)))
+    (λ h. split (eqb (letter line) 82)
+    (λ e. rw (a, b, c, d, f, g, h, e) (restart-told (rest line)))
+    (λ e. rw (a, b, c, d, f, g, h, e)))))))))
 
--- ---- the line as a whole: what is read ends in a digit
+-- ---- the line as a whole: what is read ends in a digit, or is V
 
 abbrev Ends : List ℕ → Type 0
 Ends bytes = (0 < length bytes) × (isDigit (lastByte bytes) ≡ true)
@@ -252,10 +262,22 @@ admit-ends fields r =
     (drop-ends (suc (fieldLength hashes)) hashes
     (drop-ends (suc (fieldLength later)) later (number-ends timeMost (rest later) y)))
 
-line-ends : (line : List ℕ) → isRead (parse line) ≡ true → Ends line
+abbrev endsLine : ℕ → Bool
+endsLine b = isDigit b || eqb b 86
+
+screen-ends : (line : List ℕ) → letter line ≡ 86 → isRead (screenRead line) ≡ true → endsLine (lastByte line) ≡ true
+unfolding screenRead
+screen-ends line e r =
+    split (eqb (length line) 1)
+    (λ l. split (eqb (fieldLength line) 1)
+    (λ f. let b : getD line 0 0 ≡ 86 = rw f at e in rw (eqb-true (length line) 1 l, b))
+    (λ f. let b : 0 ≡ 86 = rw f at e in absurd (omega arith)))
+    (λ l. true-not-false {b = false} (rw l at r) refl)
+
+line-ends : (line : List ℕ) → isRead (parse line) ≡ true → endsLine (lastByte line) ≡ true
 unfolding parse
 line-ends line r =
-    let behind = drop-ends (suc (fieldLength line)) line in
+    let behind : Ends (rest line) → endsLine (lastByte line) ≡ true = λ e. rw (drop-ends (suc (fieldLength line)) line e .1) in
     split (eqb (letter line) 78)
     (λ e. behind (fresh-ends (rest line) (rw e at r)))
     (λ a. split (eqb (letter line) 65)
@@ -266,14 +288,16 @@ line-ends line r =
     (λ e. behind (number-ends wordMost (rest line) (sym (last-number wordMost _ (rest line)) ∙ remove-told (rest line) ∙ rw (a, b, c, e) at r)))
     (λ d. split (eqb (letter line) 85)
     (λ e. behind (number-ends wordMost (rest line) (sym (last-number wordMost _ (rest line)) ∙ under-told (rest line) ∙ rw (a, b, c, d, e) at r)))
-    (λ f. split (eqb (letter line) 84)
-    (λ e. behind (timer-ends (rest line) (rw (a, b, c, d, f, e) at r)))
-    (λ g. split (eqb (letter line) 82)
-    (λ e. behind (number-ends timeMost (rest line) (sym (last-number timeMost _ (rest line)) ∙ restart-told (rest line) ∙ rw (a, b, c, d, f, g, e) at r)))
-    (λ e. true-not-false {b = false} (rw (a, b, c, d, f, g, e) at r) refl)))))))
+    (λ f. split (eqb (letter line) 86)
+    (λ e. screen-ends line (eqb-true (letter line) 86 e) (rw (a, b, c, d, f, e) at r))
+    (λ g. split (eqb (letter line) 84)
+    (λ e. behind (timer-ends (rest line) (rw (a, b, c, d, f, g, e) at r)))
+    (λ h. split (eqb (letter line) 82)
+    (λ e. behind (number-ends timeMost (rest line) (sym (last-number timeMost _ (rest line)) ∙ restart-told (rest line) ∙ rw (a, b, c, d, f, g, h, e) at r)))
+    (λ e. true-not-false {b = false} (rw (a, b, c, d, f, g, h, e) at r) refl))))))))
 
-last-unread : (line : List ℕ) (byte : ℕ) → lastByte line ≡ byte → isDigit byte ≡ false → isRead (parse line) ≡ false
-last-unread line byte e d = split (isRead (parse line)) (λ r. true-not-false (line-ends line r .1) (rw e d)) (λ r. r)
+last-unread : (line : List ℕ) (byte : ℕ) → lastByte line ≡ byte → endsLine byte ≡ false → isRead (parse line) ≡ false
+last-unread line byte e d = split (isRead (parse line)) (λ r. true-not-false (line-ends line r) (rw e d)) (λ r. r)
 
 empty-unread : (line : List ℕ) → length line ≡ 0 → isRead (parse line) ≡ false
 unfolding fieldLength parse

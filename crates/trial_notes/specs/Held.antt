@@ -40,7 +40,7 @@ heldFed h (byte ∷ bytes) = heldFed (heldByte h byte) bytes
 
 -- how many bytes the notes of a chunk may have
 abbrev pub room : ℕ
-room = 786432
+room = 196608
 
 -- ---- what a function leaves
 

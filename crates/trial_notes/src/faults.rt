@@ -1,7 +1,7 @@
 // The first fault of a line: of the line as a whole, then of its letter, then field after field.
 ghost use mathlib.Core.Path.{_≡_};
 ghost use Prim.Native.Nat.{_-_};
-ghost use Rattle.trial_notes.specs.Faults.{unless, numberFault, lowered as loweredRule, hashReason, hashFault, inner, last, isLetter, letterFault, freshFault, admitFault, timerFault, fieldsFault, faultOf};
+ghost use Rattle.trial_notes.specs.Faults.{unless, numberFault, lowered as loweredRule, hashReason, hashFault, inner, last, isLetter, letterFault, freshFault, admitFault, timerFault, screenFault, fieldsFault, faultOf};
 use crate::Fault;
 use crate::Reason;
 use cells::byte_at;
@@ -138,6 +138,19 @@ fn timer_fault(fields: &[u8]) -> Fault
     earlier(clock, retry)
 }
 
+// V has no field: the line is its letter.
+fn screen_fault(line: &[u8]) -> Fault
+    ensures { λ r. ⌜ r ≡ screenFault (now (line .entry)) ⌝ }
+{
+    if line.len() == 1 {
+        return Fault::Nothing;
+    }
+    if byte_at(line, 2) == b' ' {
+        return Fault::Is(Reason::SpaceTwice);
+    }
+    Fault::Is(Reason::FieldExtra)
+}
+
 fn is_letter(byte: u8) -> bool
     ensures { λ r. ⌜ r ≡ isLetter byte ⌝ }
 {
@@ -154,6 +167,9 @@ fn is_letter(byte: u8) -> bool
         return true;
     }
     if byte == b'U' {
+        return true;
+    }
+    if byte == b'V' {
         return true;
     }
     if byte == b'T' {
@@ -194,6 +210,9 @@ fn fields_fault(line: &[u8]) -> Fault
     }
     if kind == b'U' {
         return number_last(fields, WORD_MOST, Reason::WordTooLarge);
+    }
+    if kind == b'V' {
+        return screen_fault(line);
     }
     if kind == b'T' {
         return timer_fault(fields);

@@ -39,7 +39,7 @@ pub enum Fault {
 }
 
 // How many bytes the notes of a chunk may have: a byte makes no more than 96.
-pub const ROOM: usize = 786432;
+pub const ROOM: usize = 196608;
 
 // The number of the line that comes, and how many of its bytes have come, 129 for too many.
 pub struct Noting {

@@ -13,7 +13,7 @@ use Rattle.rules.specs.Calls.{State, Stepped, stateOf, maxBlocks, maxHeads}
 use Rattle.trial_lines.specs.Begun.{lineMost, chunkMost, Begun, hasBegun, lineBegun, begunOf}
 use Rattle.trial_lines.specs.Writing.{place}
 use Rattle.trial_lines.specs.declared.Line.{Line}
-use Rattle.trial_lines.specs.declared.Line.the-variants.{Fresh, Admit, Promote, Remove, Under, Timer, Restart, Unread}
+use Rattle.trial_lines.specs.declared.Line.the-variants.{Fresh, Admit, Promote, Remove, Under, Screen, Timer, Restart, Unread}
 use Rattle.trial_calls.specs.Calling.{renews}
 use Rattle.trial_fronts.specs.Fronts.{front, behind, before}
 use Rattle.trial_session.specs.Session.{lineDone, Session, Fed, lineFed, fedByte, fed, lastEnded, closing}
@@ -58,6 +58,7 @@ asked z (Admit sequence hash previous arrival) = z
 asked z (Promote slot) = z
 asked z (Remove slot) = z
 asked z (Under slot) = z
+asked z Screen = z
 asked z (Timer now retry) = z
 asked z (Restart now) = z
 asked z Unread = z
@@ -97,9 +98,18 @@ heldFed h (byte ∷ bytes) = heldFed (heldByte h byte) bytes
 unfoldable pub heldClosed : (h : Held) → Held
 heldClosed h = if hasBegun (begunIn h) then heldEnded h else h
 
--- how many bytes what is printed, of a chunk or at the end, may have: a byte makes no more than 96, and a slot at the end
+-- how many bytes a line may print: a screen 37 for each of 64 records, any other line less
+abbrev pub printMost : ℕ
+printMost = 2368
+
+-- a line that prints so much has two bytes at least, V and its end: each byte makes half of it, where that of a line's first byte is kept
+-- until the line ends
+abbrev pub byteMost : ℕ
+byteMost = 1184
+
+-- what is printed of a chunk, and what was kept before it
 abbrev pub room : ℕ
-room = 96 * chunkMost
+room = byteMost * (chunkMost + 1)
 
 -- ---- what a function of the session leaves
 

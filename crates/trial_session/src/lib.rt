@@ -13,9 +13,9 @@ use rules::BlockSlot;
 use trial_fronts::list_front;
 use trial_lines::CHUNK;
 
-// How many bytes what is printed may have: a byte makes no more than 96, and the end of a trial no more than 96 for each slot and for a
-// last line.
-pub const ROOM: usize = 786432;
+// How many bytes what is printed may have: a byte makes no more than 1,184, those of a chunk and the first of a line that had begun. At the
+// end of a trial a last line makes no more than 2,368, and each slot 96.
+pub const ROOM: usize = 2426016;
 
 // How many slots of the arrays are in use, the record, and how many bytes of a line have come, 129 for too many.
 pub struct Trial {

@@ -35,6 +35,7 @@ fn asked(trial: Trial, line: Line) -> Trial
         Line::Promote(_) => trial,
         Line::Remove(_) => trial,
         Line::Under(_) => trial,
+        Line::Screen => trial,
         Line::Timer(_, _) => trial,
         Line::Restart(_) => trial,
         Line::Unread => trial,

@@ -22,13 +22,16 @@ remove c = search
 abbrev under : tie.After-tell-under → tie.After-line4
 under c = search
 
+abbrev screen : tie.After-tell-screen → tie.After-enum-told2
+screen c = search
+
 abbrev timer : tie.After-tell-timer → tie.After-line5
 timer c = search
 
 abbrev restart : tie.After-tell-restart → tie.After-line6
 restart c = search
 
-abbrev unread : tie.After-tell-unread → tie.After-enum-told2
+abbrev unread : tie.After-tell-unread → tie.After-enum-told3
 unread c = search
 
 enum-told : tie.Need-enum-told
@@ -61,6 +64,12 @@ enum-known-line-4 c = search needs
 tell-under-requires : tie.Need-tell-under-requires
 tell-under-requires c κs = tt
 
+enum-told-2 : tie.Need-enum-told-2
+enum-told-2 c = search needs
+
+tell-screen-requires : tie.Need-tell-screen-requires
+tell-screen-requires c κs = tt
+
 enum-known-line-5 : tie.Need-enum-known-line-5
 enum-known-line-5 c = search needs
 
@@ -73,8 +82,8 @@ enum-known-line-6 c = search needs
 tell-restart-requires : tie.Need-tell-restart-requires
 tell-restart-requires c κs = tt
 
-enum-told-2 : tie.Need-enum-told-2
-enum-told-2 c = search needs
+enum-told-3 : tie.Need-enum-told-3
+enum-told-3 c = search needs
 
 tell-unread-requires : tie.Need-tell-unread-requires
 tell-unread-requires c κs = tt
@@ -275,88 +284,127 @@ returns-5 : tie.Need-returns-5
 returns-5 c = let t = the tie.After-tell-under (search) in tells-of (under t .line4 .given .1) (t .tell-under .ensures)
 
 same-length-61 : tie.Need-same-length-61
-same-length-61 c = let t = the tie.After-tell-timer (search) in omega (arith, t .tell-timer .kept)
+same-length-61 c = let t = the tie.After-tell-screen (search) in omega (arith, t .tell-screen .kept)
 
 same-length-62 : tie.Need-same-length-62
-same-length-62 c = let t = the tie.After-tell-timer (search) in omega (arith, t .tell-timer .kept)
+same-length-62 c = let t = the tie.After-tell-screen (search) in omega (arith, t .tell-screen .kept)
 
 same-length-63 : tie.Need-same-length-63
-same-length-63 c = let t = the tie.After-tell-timer (search) in omega (arith, t .tell-timer .kept)
+same-length-63 c = let t = the tie.After-tell-screen (search) in omega (arith, t .tell-screen .kept)
 
 same-length-64 : tie.Need-same-length-64
-same-length-64 c = let t = the tie.After-tell-timer (search) in omega (arith, t .tell-timer .kept)
+same-length-64 c = let t = the tie.After-tell-screen (search) in omega (arith, t .tell-screen .kept)
 
 same-length-65 : tie.Need-same-length-65
-same-length-65 c = let t = the tie.After-tell-timer (search) in omega (arith, t .tell-timer .kept)
+same-length-65 c = let t = the tie.After-tell-screen (search) in omega (arith, t .tell-screen .kept)
 
 same-length-66 : tie.Need-same-length-66
-same-length-66 c = let t = the tie.After-tell-timer (search) in omega (arith, t .tell-timer .kept)
+same-length-66 c = let t = the tie.After-tell-screen (search) in omega (arith, t .tell-screen .kept)
 
 same-length-67 : tie.Need-same-length-67
-same-length-67 c = let t = the tie.After-tell-timer (search) in omega (arith, t .tell-timer .kept)
+same-length-67 c = let t = the tie.After-tell-screen (search) in omega (arith, t .tell-screen .kept)
 
 same-length-68 : tie.Need-same-length-68
-same-length-68 c = let t = the tie.After-tell-timer (search) in omega (arith, t .tell-timer .kept)
+same-length-68 c = let t = the tie.After-tell-screen (search) in omega (arith, t .tell-screen .kept)
 
 same-length-69 : tie.Need-same-length-69
-same-length-69 c = let t = the tie.After-tell-timer (search) in omega (arith, t .tell-timer .kept)
+same-length-69 c = let t = the tie.After-tell-screen (search) in omega (arith, t .tell-screen .kept)
 
 same-length-70 : tie.Need-same-length-70
-same-length-70 c = let t = the tie.After-tell-timer (search) in omega (arith, t .tell-timer .kept)
+same-length-70 c = let t = the tie.After-tell-screen (search) in omega (arith, t .tell-screen .kept)
 
 same-length-71 : tie.Need-same-length-71
-same-length-71 c = let t = the tie.After-tell-timer (search) in omega (arith, t .tell-timer .kept)
+same-length-71 c = let t = the tie.After-tell-screen (search) in omega (arith, t .tell-screen .kept)
 
 same-length-72 : tie.Need-same-length-72
-same-length-72 c = let t = the tie.After-tell-timer (search) in omega (arith, t .tell-timer .kept)
+same-length-72 c = let t = the tie.After-tell-screen (search) in omega (arith, t .tell-screen .kept)
 
 returns-6 : tie.Need-returns-6
-returns-6 c = let t = the tie.After-tell-timer (search) in tells-of (timer t .line5 .given .1) (t .tell-timer .ensures)
+returns-6 c = let t = the tie.After-tell-screen (search) in tells-of (screen t .enum-told2 .given .1) (t .tell-screen .ensures)
 
 same-length-73 : tie.Need-same-length-73
-same-length-73 c = let t = the tie.After-tell-restart (search) in omega (arith, t .tell-restart .kept)
+same-length-73 c = let t = the tie.After-tell-timer (search) in omega (arith, t .tell-timer .kept)
 
 same-length-74 : tie.Need-same-length-74
-same-length-74 c = let t = the tie.After-tell-restart (search) in omega (arith, t .tell-restart .kept)
+same-length-74 c = let t = the tie.After-tell-timer (search) in omega (arith, t .tell-timer .kept)
 
 same-length-75 : tie.Need-same-length-75
-same-length-75 c = let t = the tie.After-tell-restart (search) in omega (arith, t .tell-restart .kept)
+same-length-75 c = let t = the tie.After-tell-timer (search) in omega (arith, t .tell-timer .kept)
 
 same-length-76 : tie.Need-same-length-76
-same-length-76 c = let t = the tie.After-tell-restart (search) in omega (arith, t .tell-restart .kept)
+same-length-76 c = let t = the tie.After-tell-timer (search) in omega (arith, t .tell-timer .kept)
 
 same-length-77 : tie.Need-same-length-77
-same-length-77 c = let t = the tie.After-tell-restart (search) in omega (arith, t .tell-restart .kept)
+same-length-77 c = let t = the tie.After-tell-timer (search) in omega (arith, t .tell-timer .kept)
 
 same-length-78 : tie.Need-same-length-78
-same-length-78 c = let t = the tie.After-tell-restart (search) in omega (arith, t .tell-restart .kept)
+same-length-78 c = let t = the tie.After-tell-timer (search) in omega (arith, t .tell-timer .kept)
 
 same-length-79 : tie.Need-same-length-79
-same-length-79 c = let t = the tie.After-tell-restart (search) in omega (arith, t .tell-restart .kept)
+same-length-79 c = let t = the tie.After-tell-timer (search) in omega (arith, t .tell-timer .kept)
 
 same-length-80 : tie.Need-same-length-80
-same-length-80 c = let t = the tie.After-tell-restart (search) in omega (arith, t .tell-restart .kept)
+same-length-80 c = let t = the tie.After-tell-timer (search) in omega (arith, t .tell-timer .kept)
 
 same-length-81 : tie.Need-same-length-81
-same-length-81 c = let t = the tie.After-tell-restart (search) in omega (arith, t .tell-restart .kept)
+same-length-81 c = let t = the tie.After-tell-timer (search) in omega (arith, t .tell-timer .kept)
 
 same-length-82 : tie.Need-same-length-82
-same-length-82 c = let t = the tie.After-tell-restart (search) in omega (arith, t .tell-restart .kept)
+same-length-82 c = let t = the tie.After-tell-timer (search) in omega (arith, t .tell-timer .kept)
 
 same-length-83 : tie.Need-same-length-83
-same-length-83 c = let t = the tie.After-tell-restart (search) in omega (arith, t .tell-restart .kept)
+same-length-83 c = let t = the tie.After-tell-timer (search) in omega (arith, t .tell-timer .kept)
 
 same-length-84 : tie.Need-same-length-84
-same-length-84 c = let t = the tie.After-tell-restart (search) in omega (arith, t .tell-restart .kept)
+same-length-84 c = let t = the tie.After-tell-timer (search) in omega (arith, t .tell-timer .kept)
 
 returns-7 : tie.Need-returns-7
-returns-7 c = let t = the tie.After-tell-restart (search) in tells-of (restart t .line6 .given .1) (t .tell-restart .ensures)
+returns-7 c = let t = the tie.After-tell-timer (search) in tells-of (timer t .line5 .given .1) (t .tell-timer .ensures)
 
 same-length-85 : tie.Need-same-length-85
-same-length-85 c = let t = the tie.After-tell-unread (search) in omega (arith, t .tell-unread .kept)
+same-length-85 c = let t = the tie.After-tell-restart (search) in omega (arith, t .tell-restart .kept)
+
+same-length-86 : tie.Need-same-length-86
+same-length-86 c = let t = the tie.After-tell-restart (search) in omega (arith, t .tell-restart .kept)
+
+same-length-87 : tie.Need-same-length-87
+same-length-87 c = let t = the tie.After-tell-restart (search) in omega (arith, t .tell-restart .kept)
+
+same-length-88 : tie.Need-same-length-88
+same-length-88 c = let t = the tie.After-tell-restart (search) in omega (arith, t .tell-restart .kept)
+
+same-length-89 : tie.Need-same-length-89
+same-length-89 c = let t = the tie.After-tell-restart (search) in omega (arith, t .tell-restart .kept)
+
+same-length-90 : tie.Need-same-length-90
+same-length-90 c = let t = the tie.After-tell-restart (search) in omega (arith, t .tell-restart .kept)
+
+same-length-91 : tie.Need-same-length-91
+same-length-91 c = let t = the tie.After-tell-restart (search) in omega (arith, t .tell-restart .kept)
+
+same-length-92 : tie.Need-same-length-92
+same-length-92 c = let t = the tie.After-tell-restart (search) in omega (arith, t .tell-restart .kept)
+
+same-length-93 : tie.Need-same-length-93
+same-length-93 c = let t = the tie.After-tell-restart (search) in omega (arith, t .tell-restart .kept)
+
+same-length-94 : tie.Need-same-length-94
+same-length-94 c = let t = the tie.After-tell-restart (search) in omega (arith, t .tell-restart .kept)
+
+same-length-95 : tie.Need-same-length-95
+same-length-95 c = let t = the tie.After-tell-restart (search) in omega (arith, t .tell-restart .kept)
+
+same-length-96 : tie.Need-same-length-96
+same-length-96 c = let t = the tie.After-tell-restart (search) in omega (arith, t .tell-restart .kept)
 
 returns-8 : tie.Need-returns-8
-returns-8 c = let t = the tie.After-tell-unread (search) in tells-of (unread t .enum-told2 .given .1) (t .tell-unread .ensures _)
+returns-8 c = let t = the tie.After-tell-restart (search) in tells-of (restart t .line6 .given .1) (t .tell-restart .ensures)
+
+same-length-97 : tie.Need-same-length-97
+same-length-97 c = let t = the tie.After-tell-unread (search) in omega (arith, t .tell-unread .kept)
+
+returns-9 : tie.Need-returns-9
+returns-9 c = let t = the tie.After-tell-unread (search) in tells-of (unread t .enum-told3 .given .1) (t .tell-unread .ensures _)
 
 pub answer-spec : {M : Type 1} → statement M
 answer-spec =
@@ -372,11 +420,13 @@ answer-spec =
     tell-remove-requires
     enum-known-line-4
     tell-under-requires
+    enum-told-2
+    tell-screen-requires
     enum-known-line-5
     tell-timer-requires
     enum-known-line-6
     tell-restart-requires
-    enum-told-2
+    enum-told-3
     tell-unread-requires
     same-length
     same-length-2
@@ -470,4 +520,17 @@ answer-spec =
     same-length-84
     returns-7
     same-length-85
-    returns-8)
+    same-length-86
+    same-length-87
+    same-length-88
+    same-length-89
+    same-length-90
+    same-length-91
+    same-length-92
+    same-length-93
+    same-length-94
+    same-length-95
+    same-length-96
+    returns-8
+    same-length-97
+    returns-9)

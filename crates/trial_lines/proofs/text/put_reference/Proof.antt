@@ -24,7 +24,7 @@ returns c =
     let if1 = let p : tie.Then1 = search in p .if1 in
     let put = let p : tie.After-put = search in p .put in
     let put2 = let p : tie.After-put2 = search in p .put2 in
-    rw (eq-eqb (a .slot .0) NONE (if1 .taken))
+    rw (eq-eqb (a .n) NONE (if1 .taken))
     (put-then (a .out .now) (put .last .0) (put2 .last .0) (32 ∷ []) (45 ∷ []) (a .at) (put .result) (put2 .result) (put .ensures) (put2 .ensures))
 
 put-field-requires : tie.Need-put-field-requires
@@ -39,7 +39,7 @@ returns-2 c =
     let args = let p : tie.Start = search in p .args in
     let if1 = let p : tie.Else1 = search in p .if1 in
     let put-field = let p : tie.After-put-field = search in p .put-field in
-    rw (ne-eqb (args .slot .0) NONE (if1 .left)) (put-field .ensures)
+    rw (ne-eqb (args .n) NONE (if1 .left)) (put-field .ensures)
 
 pub put-reference-spec : {M : Type 1} → statement M
 put-reference-spec =

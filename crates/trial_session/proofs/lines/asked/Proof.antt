@@ -28,6 +28,9 @@ enum-told-6 c = search needs
 enum-told-7 : tie.Need-enum-told-7
 enum-told-7 c = search needs
 
+enum-told-8 : tie.Need-enum-told-8
+enum-told-8 c = search needs
+
 returns : tie.Need-returns
 unfolding asked
 returns c = rw (c .before .before .line .given .1)
@@ -60,6 +63,10 @@ returns-8 : tie.Need-returns-8
 unfolding asked
 returns-8 c = rw (c .enum-told7 .given .1)
 
+returns-9 : tie.Need-returns-9
+unfolding asked
+returns-9 c = rw (c .enum-told8 .given .1)
+
 pub asked-spec : {M : Type 1} → statement M
 asked-spec =
     tie.close
@@ -72,6 +79,7 @@ asked-spec =
     enum-told-5
     enum-told-6
     enum-told-7
+    enum-told-8
     returns
     returns-2
     returns-3
@@ -79,4 +87,5 @@ asked-spec =
     returns-5
     returns-6
     returns-7
-    returns-8)
+    returns-8
+    returns-9)

@@ -1,0 +1,6 @@
+pub mod Order
+pub mod Shifted
+pub mod Places
+pub mod Moving
+pub mod Listed
+pub mod Replies

@@ -38,9 +38,9 @@ extern "C" {
 #endif
 
 #define STATION_VERSION_MAJOR 0
-#define STATION_VERSION_MINOR 3
+#define STATION_VERSION_MINOR 4
 #define STATION_VERSION_PATCH 0
-#define STATION_VERSION "0.3.0"
+#define STATION_VERSION "0.4.0"
 
 /* Ignoring the answer of such a function warns. */
 #if (defined(__cplusplus) && __cplusplus >= 201703L) || (defined(__STDC_VERSION__) && __STDC_VERSION__ > 201710L)
@@ -56,6 +56,13 @@ extern "C" {
 #define STATION_AT_LEAST static
 #endif
 
+/* What must hold of a layout: where it does not, nothing compiles. C99 has no word for it, and the compilers lend theirs. */
+#ifdef __cplusplus
+#define STATION_ASSERT(holds, words) static_assert(holds, words)
+#else
+#define STATION_ASSERT(holds, words) __extension__ _Static_assert(holds, words)
+#endif
+
 /* Names no slot: no parent, no active head, nothing found, the value of a refused call. No block has it as its sequence. */
 #define STATION_NONE_REF UINT32_C(4294967295)
 
@@ -69,7 +76,7 @@ extern "C" {
 
 /* ---- Answers and refusals
  *
- * A call does its work and answers with a value, or refuses and has changed nothing. Where several of the refusals 1 to 9
+ * A call does its work and answers with a value, or refuses and has changed nothing. Where several of the refusals 1 to 10
  * apply the lowest is given. Those from 100 on are of this header alone.
  */
 
@@ -89,6 +96,7 @@ enum {
     STATION_REFUSED_FULL = 7,
     STATION_REFUSED_NOT_NEXT = 8,
     STATION_REFUSED_HOLDS_ACTIVE = 9,
+    STATION_REFUSED_SHORT_LIST = 10,
     STATION_REFUSED_STORE = 100,
     STATION_REFUSED_RECORD = 101
 };
@@ -217,6 +225,34 @@ STATION_CHECKED static inline struct station_answer station_tables_remove(struct
  */
 STATION_CHECKED static inline struct station_answer station_tables_under(
     const struct station_tables *t, uint32_t slot, uint32_t *highest);
+
+/* A record of the head screen: what a head keeps, and the sequence of its tip. */
+struct station_head_row {
+    uint32_t tip;      /* a block slot */
+    uint32_t sequence; /* STATION_NONE_REF where the tip is empty or out of range */
+    uint32_t kind;     /* STATION_HEAD_STORED or STATION_HEAD_CONNECTED */
+    uint32_t anchor;   /* a block slot, or STATION_NONE_REF */
+};
+
+STATION_ASSERT(sizeof(struct station_head_row) == 16, "a record of the head screen is 16 bytes");
+STATION_ASSERT(offsetof(struct station_head_row, tip) == 0, "the tip comes first");
+STATION_ASSERT(offsetof(struct station_head_row, sequence) == 4, "the sequence comes second");
+STATION_ASSERT(offsetof(struct station_head_row, kind) == 8, "the kind comes third");
+STATION_ASSERT(offsetof(struct station_head_row, anchor) == 12, "the anchor comes last");
+
+/* The kind of a head, which is not the status of a block. */
+enum { STATION_HEAD_STORED = 0, STATION_HEAD_CONNECTED = 1 };
+
+/*
+ * Fills the caller's list with a record for each head in use and answers with their number; records past the last head keep
+ * their contents. They stand by the tip's sequence, highest first, then by its hash, lowest first, then by head slot, lowest
+ * first. In a damaged table a tip that is empty or out of range shows STATION_NONE_REF and sorts with a zero hash, so that
+ * its head stands first. `room` counts records, not bytes: t->heads of them at least, however many heads are in use;
+ * STATION_MOST_HEADS are enough for any tables, and null `rows` have none. The tables stay as they are. Refuses 1 and 10, and
+ * then writes nothing, and its value is no number of records.
+ */
+STATION_CHECKED static inline struct station_answer station_tables_screen(
+    const struct station_tables *t, struct station_head_row *rows, size_t room);
 
 /* A block to ask for: the sequence that it should have, and its hash. */
 struct station_request {
@@ -390,6 +426,15 @@ STATION_CHECKED uint64_t station_under(
     const uint64_t *arrivals, size_t arrivals_len, const uint8_t *connected, size_t connected_len,
     uint32_t slot, uint32_t *highest, size_t highest_len);
 
+STATION_CHECKED uint64_t station_screen(
+    const uint8_t *hashes, size_t hashes_len, const uint32_t *parents, size_t parents_len,
+    const uint32_t *sequences, size_t sequences_len, const uint8_t *counts, size_t counts_len,
+    const uint8_t *flags, size_t flags_len,
+    const uint32_t *tips, size_t tips_len, const uint32_t *tails, size_t tails_len,
+    const uint8_t *missing, size_t missing_len, const uint64_t *requested, size_t requested_len,
+    const uint64_t *arrivals, size_t arrivals_len, const uint8_t *connected, size_t connected_len,
+    struct station_head_row *rows, size_t rows_len);
+
 /*
  * `span` ticks where `given` is not 0, else 60. Where a head is asked for, claimed[0] is the sequence of its missing block
  * and wanted[0] to wanted[31] are the hash.
@@ -530,6 +575,8 @@ static inline const char *station_refusal_text(uint32_t refusal)
         return "the block's parent is not the active head";
     case STATION_REFUSED_HOLDS_ACTIVE:
         return "the slot's subtree has a block on the active chain";
+    case STATION_REFUSED_SHORT_LIST:
+        return "the list has fewer records than there are head slots";
     case STATION_REFUSED_STORE:
         return "what was loaded is no store of this layout and of this many slots";
     case STATION_REFUSED_RECORD:
@@ -605,6 +652,13 @@ static inline struct station_answer station_tables_under(
     uint32_t none;
     return station_answered(station_under(
         STATION_BUFFERS(t), slot, highest != NULL ? highest : &none, highest != NULL ? 1 : 0));
+}
+
+static inline struct station_answer station_tables_screen(
+    const struct station_tables *t, struct station_head_row *rows, size_t room)
+{
+    struct station_head_row none;
+    return station_answered(station_screen(STATION_BUFFERS(t), rows != NULL ? rows : &none, rows != NULL ? room : 0));
 }
 
 static inline struct station_answer station_tables_timer(

@@ -175,6 +175,41 @@ static void under(void)
     free(highest);
 }
 
+static bool is_row(const struct station_head_row *row, uint32_t tip, uint32_t sequence, uint32_t kind, uint32_t anchor)
+{
+    return row->tip == tip && row->sequence == sequence && row->kind == kind && row->anchor == anchor;
+}
+
+static void screen(void)
+{
+    struct station_head_row *rows = (struct station_head_row *)bytes(sizeof *rows * HEADS);
+    assert(gives(station_tables_screen(&tables, rows, HEADS), 2));
+    assert(is_row(&rows[0], 3, 7, STATION_HEAD_STORED, 3));
+    assert(is_row(&rows[1], 2, 6, STATION_HEAD_CONNECTED, 0));
+
+    /* Head 1 has an empty tip, and then one out of range, and stands first; its flag has other bits, too. */
+    const uint32_t tips[] = { 1, BLOCKS };
+    tables.connected[1] = 0xfe;
+    for (size_t i = 0; i < sizeof tips / sizeof *tips; i++) {
+        tables.tips[1] = tips[i];
+        assert(gives(station_tables_screen(&tables, rows, HEADS), 2));
+        assert(is_row(&rows[0], tips[i], STATION_NONE_REF, STATION_HEAD_STORED, 0));
+        assert(is_row(&rows[1], 3, 7, STATION_HEAD_STORED, 3));
+    }
+
+    /* With no head 1 its record stays; and all records do where a list is too short. */
+    rows[0].tip = rows[1].tip = 77;
+    tables.tips[1] = STATION_NONE_REF;
+    assert(refuses(station_tables_screen(&tables, rows, HEADS - 1), STATION_REFUSED_SHORT_LIST));
+    assert(refuses(station_tables_screen(&tables, NULL, HEADS), STATION_REFUSED_SHORT_LIST));
+    assert(rows[0].tip == 77 && rows[1].tip == 77);
+    assert(gives(station_tables_screen(&tables, rows, HEADS), 1));
+    assert(is_row(&rows[0], 3, 7, STATION_HEAD_STORED, 3) && is_row(&rows[1], 77, 7, STATION_HEAD_STORED, 3));
+    tables.tips[1] = 2;
+    tables.connected[1] = 1;
+    free(rows);
+}
+
 static void timers(void)
 {
     const uint64_t retry = 5;
@@ -207,6 +242,7 @@ static void refusals(void)
     lend(&too_large, STATION_MOST_BLOCKS + 1, STATION_MOST_HEADS);
     assert(refuses(station_tables_fresh(&too_large), STATION_REFUSED_SHAPE));
     assert(refuses(station_tables_under(&too_large, STATION_NONE_REF, NULL), STATION_REFUSED_SHAPE));
+    assert(refuses(station_tables_screen(&too_large, NULL, 0), STATION_REFUSED_SHAPE));
     give_back(&too_large);
 }
 
@@ -225,6 +261,7 @@ int main(void)
     trial();
     questions();
     under();
+    screen();
     timers();
     refusals();
     hashes_of_the_tables();

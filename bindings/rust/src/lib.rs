@@ -1,8 +1,9 @@
 //! The booking chain's block tree and its heads, proved, for Rust programs.
 //!
 //! A station keeps its bookings in blocks, each of which names its parent by hash. [`Tables`] hold up to
-//! 1,024 of them and the heads of up to 64 branches; [`Tables::promote`] confirms a block. A full head
-//! table evicts a branch, and a block that another branch shares, or that is confirmed, must stay.
+//! 1,024 of them and the heads of up to 64 branches; [`Tables::promote`] confirms a block, and
+//! [`Tables::screen`] shows the branches. A full head table evicts a branch, and a block that another
+//! branch shares, or that is confirmed, must stay.
 //!
 //! ```
 //! use station::{BlockSlot, Refusal, Sequence, Tables};
@@ -48,10 +49,11 @@
 //! [`Tables::to_bytes`] gives all that must outlast the station. Save it after each accepted call that
 //! changes the blocks or the record, which the timer and questions do not, before anyone is told of the
 //! answer, and save it whole: write a second file, flush it to the disk and rename it over the first, so
-//! that a crash leaves the old tables or the new ones and nothing in between. When the station comes up again, [`Tables::from_bytes`] refuses what is not such
-//! bytes, and [`Tables::restart`] comes before all else. Of the bytes the hashes, parents, sequences and
-//! flags of the blocks and the record must come back as one call left them; the counts of blocks and
-//! the heads may be anything. They are the bytes of a store of `include/station.h`.
+//! that a crash leaves the old tables or the new ones and nothing in between. When the station comes up
+//! again, [`Tables::from_bytes`] refuses what is not such bytes, and [`Tables::restart`] comes before all
+//! else. Of the bytes the hashes, parents, sequences and flags of the blocks and the record must come
+//! back as one call left them; the counts of blocks and the heads may be anything. They are the bytes of
+//! a store of `include/station.h`.
 //!
 //! # Building
 //!
@@ -76,8 +78,8 @@ mod store;
 mod tables;
 
 pub use records::{
-    Anchor, Block, BlockSlot, Hash, Head, HeadSlot, NONE_REF, Rank, Request, Sequence, Status,
-    Under,
+    Anchor, Block, BlockSlot, Hash, Head, HeadKind, HeadRow, HeadSlot, NONE_REF, Rank, Request,
+    Sequence, Status, Under,
 };
 pub use refusal::Refusal;
 pub use tables::{MOST_BLOCKS, MOST_HEADS, Parts, Tables};

@@ -3,11 +3,21 @@
 
 #![allow(unsafe_code, clippy::too_many_arguments)]
 
+use crate::records::HeadRow;
+use core::mem::offset_of;
+
 /// The caller's record, which fresh and promote write.
 #[repr(C)]
 pub(crate) struct ActiveHead {
     pub slot: u32,
 }
+
+// The archive's layout of a record of the head screen.
+const _: () = {
+    assert!(size_of::<HeadRow>() == 16 && align_of::<HeadRow>() == 4);
+    assert!(offset_of!(HeadRow, tip) == 0 && offset_of!(HeadRow, sequence) == 4);
+    assert!(offset_of!(HeadRow, kind) == 8 && offset_of!(HeadRow, anchor) == 12);
+};
 
 /// Declares each function with its C types, where a slice is a pointer and a length, and defines a
 /// function of the same name that takes Rust's slices.
@@ -75,6 +85,12 @@ entries! {
         flags: &[u8], tips: &[u32], tails: &[u32], missing: &[u8],
         requested: &[u64], arrivals: &[u64], connected: &[u8],
         slot: u32, highest: &mut [u32]
+    ) -> u64;
+    fn station_screen(
+        hashes: &[u8], parents: &[u32], sequences: &[u32], counts: &[u8],
+        flags: &[u8], tips: &[u32], tails: &[u32], missing: &[u8],
+        requested: &[u64], arrivals: &[u64], connected: &[u8],
+        rows: &mut [HeadRow]
     ) -> u64;
     fn station_timer(
         hashes: &[u8], parents: &[u32], sequences: &[u32], counts: &[u8],

@@ -6,6 +6,11 @@ use core::fmt;
 /// have.
 pub const NONE_REF: u32 = u32::MAX;
 
+/// The number, where it is not [`NONE_REF`].
+pub(crate) fn found(number: u32) -> Option<u32> {
+    (number != NONE_REF).then_some(number)
+}
+
 /// The 32 bytes of a hash. Hashes are ordered from their first byte on.
 pub type Hash = [u8; 32];
 
@@ -117,6 +122,71 @@ impl fmt::Debug for Head {
             .field("arrival", &self.arrival)
             .finish()
     }
+}
+
+/// A record of the head screen: a branch's tip and its sequence, and where the branch stands. A list
+/// to be filled is made of `HeadRow::default()`, the record of no head.
+// The archive writes it as it lies in memory: `raw` asserts the layout.
+#[derive(Clone, Copy, PartialEq, Eq, Hash)]
+#[repr(C)]
+pub struct HeadRow {
+    pub(crate) tip: u32,
+    pub(crate) sequence: u32,
+    pub(crate) kind: u32,
+    pub(crate) anchor: u32,
+}
+
+impl HeadRow {
+    /// The slot of the branch's last block.
+    #[must_use]
+    pub fn tip(&self) -> BlockSlot {
+        BlockSlot(self.tip)
+    }
+
+    /// The sequence of that block. Only in damaged tables is there none: the slot is empty or out of
+    /// range.
+    #[must_use]
+    pub fn sequence(&self) -> Option<Sequence> {
+        found(self.sequence).map(Sequence)
+    }
+
+    /// Whether the head is connected or stored.
+    #[must_use]
+    pub fn kind(&self) -> HeadKind {
+        if self.kind == 1 { HeadKind::Connected } else { HeadKind::Stored }
+    }
+
+    /// Where the tip's parent walk first meets the active chain, or else where it ends.
+    #[must_use]
+    pub fn anchor(&self) -> Option<BlockSlot> {
+        found(self.anchor).map(BlockSlot)
+    }
+}
+
+impl Default for HeadRow {
+    fn default() -> HeadRow {
+        HeadRow { tip: NONE_REF, sequence: NONE_REF, kind: 0, anchor: NONE_REF }
+    }
+}
+
+impl fmt::Debug for HeadRow {
+    fn fmt(&self, f: &mut fmt::Formatter) -> fmt::Result {
+        f.debug_struct("HeadRow")
+            .field("tip", &self.tip())
+            .field("sequence", &self.sequence())
+            .field("kind", &self.kind())
+            .field("anchor", &self.anchor())
+            .finish()
+    }
+}
+
+/// What kind of head a branch has.
+#[derive(Debug, Clone, Copy, PartialEq, Eq, Hash)]
+pub enum HeadKind {
+    /// The branch waits for a missing block.
+    Stored,
+    /// The branch meets the active chain.
+    Connected,
 }
 
 /// Where a parent walk ends.

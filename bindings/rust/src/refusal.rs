@@ -3,8 +3,8 @@ use core::fmt;
 
 /// Why a call was refused. A refused call has changed nothing.
 ///
-/// Where several of the refusals 1 to 9 apply, the one with the lowest number is given. Those from 100 on
-/// are given to what was loaded, and by no call.
+/// Where several of the refusals 1 to 10 apply, the one with the lowest number is given. Those from 100
+/// on are given to what was loaded, and by no call.
 ///
 /// ```
 /// use station::{Refusal, Tables};
@@ -36,6 +36,9 @@ pub enum Refusal {
     NotNext = 8,
     /// 9, remove: the slot's subtree has a block on the active chain.
     HoldsActive = 9,
+    /// 10, [`Tables::fill_screen`](crate::Tables::fill_screen): the list has fewer records than there are
+    /// head slots, however many heads are in use.
+    ShortList = 10,
     /// 100, [`Tables::from_bytes`](crate::Tables::from_bytes): the bytes are not those of tables of this
     /// layout, or not as many as their slots need.
     Store = 100,
@@ -47,7 +50,7 @@ pub enum Refusal {
 
 impl Refusal {
     /// All refusals, in the order of their numbers.
-    pub const ALL: [Refusal; 11] = [
+    pub const ALL: [Refusal; 12] = [
         Refusal::Shape,
         Refusal::HashLength,
         Refusal::NoBlock,
@@ -57,6 +60,7 @@ impl Refusal {
         Refusal::Full,
         Refusal::NotNext,
         Refusal::HoldsActive,
+        Refusal::ShortList,
         Refusal::Store,
         Refusal::Record,
     ];
@@ -89,6 +93,7 @@ impl fmt::Display for Refusal {
             Refusal::Full => "no block slot is empty",
             Refusal::NotNext => "the block's parent is not the active head",
             Refusal::HoldsActive => "the slot's subtree has a block on the active chain",
+            Refusal::ShortList => "the list has fewer records than there are head slots",
             Refusal::Store => "what was loaded is no store of this layout and of this many slots",
             Refusal::Record => "the record is not the last block of the active chain",
         })
@@ -103,6 +108,6 @@ impl Error for Refusal {}
 pub(crate) fn accepted(answer: u64) -> Result<u32, Refusal> {
     match (answer >> 32) as u32 {
         0 => Ok(answer as u32),
-        number => Err(Refusal::from_number(number).expect("the calls refuse by 1 to 9")),
+        number => Err(Refusal::from_number(number).expect("the calls refuse by 1 to 10")),
     }
 }

@@ -1,6 +1,7 @@
 use crate::raw::{self, ActiveHead};
 use crate::records::{
-    Anchor, Block, BlockSlot, Hash, Head, HeadSlot, NONE_REF, Request, Sequence, Status, Under,
+    Anchor, Block, BlockSlot, Hash, Head, HeadRow, HeadSlot, NONE_REF, Request, Sequence, Status,
+    Under, found,
 };
 use crate::refusal::{Refusal, accepted};
 use alloc::{vec, vec::Vec};
@@ -267,6 +268,37 @@ impl Tables {
         Ok(Under { blocks: blocks as usize, highest: Sequence(highest[0]) })
     }
 
+    /// Fills the list with a record for each head in use and gives their number; records past the last
+    /// head keep their contents. They stand by the tip's sequence, highest first, then by its hash,
+    /// lowest first, then by head slot, lowest first.
+    ///
+    /// In adopted tables that are damaged a tip that is empty or out of range has no sequence and sorts
+    /// with a zero hash, so that its head stands first.
+    ///
+    /// The list has [`head_slots`](Tables::head_slots) records at least, however many heads are in use;
+    /// [`MOST_HEADS`] are enough for any tables. [`screen`](Tables::screen) needs no list.
+    ///
+    /// # Errors
+    ///
+    /// [`Refusal::ShortList`], and the list keeps its contents.
+    ///
+    /// ```
+    /// use station::{HeadRow, Refusal, Sequence, Tables};
+    ///
+    /// let mut tables = Tables::new(4, 2)?;
+    /// let mut rows = [HeadRow::default(); 2];
+    /// assert_eq!(tables.fill_screen(&mut rows)?, 0);
+    /// let low = tables.admit(Sequence(5), &[0x0a; 32], &[0x09; 32], 1)?;
+    /// let high = tables.admit(Sequence(7), &[0x0d; 32], &[0x0e; 32], 2)?;
+    /// assert_eq!(tables.fill_screen(&mut rows)?, 2);
+    /// assert_eq!(rows.map(|row| row.tip()), [high, low]);
+    /// assert_eq!(tables.fill_screen(&mut rows[..1]), Err(Refusal::ShortList));
+    /// # Ok::<(), Refusal>(())
+    /// ```
+    pub fn fill_screen(&self, rows: &mut [HeadRow]) -> Result<usize, Refusal> {
+        accepted(lend!(&self.parts, station_screen, rows)).map(|shown| shown as usize)
+    }
+
     /// Chooses the missing block to be asked for now, if one is due, and notes the time at its head.
     /// A head that was asked for is due again `retry` ticks later; `None` is 60 ticks.
     ///
@@ -452,6 +484,27 @@ impl Tables {
         })
     }
 
+    /// The head screen: a record for each head in use, in the order of
+    /// [`fill_screen`](Tables::fill_screen). It shows the tables as they stand when it is asked for, and
+    /// does not borrow them.
+    ///
+    /// ```
+    /// use station::{HeadKind, Refusal, Sequence, Tables};
+    ///
+    /// let mut tables = Tables::new(4, 2)?;
+    /// let pass = tables.admit(Sequence(5), &[0x0a; 32], &[0x09; 32], 1)?;
+    /// tables.promote(pass)?;
+    /// let stray = tables.admit(Sequence(7), &[0x0d; 32], &[0x0e; 32], 2)?;
+    /// let shown: Vec<_> = tables.screen().map(|row| (row.tip(), row.kind())).collect();
+    /// assert_eq!(shown, [(stray, HeadKind::Stored), (pass, HeadKind::Connected)]);
+    /// # Ok::<(), Refusal>(())
+    /// ```
+    pub fn screen(&self) -> impl Iterator<Item = HeadRow> + use<> {
+        let mut rows = [HeadRow::default(); MOST_HEADS];
+        let shown = self.fill_screen(&mut rows).expect("a list for all heads");
+        rows.into_iter().take(shown)
+    }
+
     /// How many heads are in use.
     #[must_use]
     pub fn head_count(&self) -> usize {
@@ -474,10 +527,6 @@ impl Tables {
 
 fn lowered(retry: Option<u64>) -> (u32, u64) {
     (u32::from(retry.is_some()), retry.unwrap_or(0))
-}
-
-fn found(answer: u32) -> Option<u32> {
-    (answer != NONE_REF).then_some(answer)
 }
 
 fn is_yes(answer: u32) -> bool {

@@ -42,6 +42,35 @@ fn the_record() {
 }
 
 #[test]
+fn the_record_of_a_screen() {
+    let rules = spaced(&read("crates/rules/src/lib.rt"));
+    for number in ["BlockSlot", "Sequence", "HeadKind"] {
+        assert!(rules.contains(&format!("#[repr(C)] pub struct {number}(pub u32);")), "{number}");
+    }
+    let row = "#[repr(C)] pub struct HeadRow { pub tip: BlockSlot, pub sequence: Sequence, \
+               pub kind: HeadKind, pub anchor: BlockSlot, }";
+    assert!(rules.contains(row));
+    let rust = spaced(&read("bindings/rust/src/records.rs"));
+    let row = "#[repr(C)] pub struct HeadRow { pub(crate) tip: u32, pub(crate) sequence: u32, \
+               pub(crate) kind: u32, pub(crate) anchor: u32, }";
+    assert!(rust.contains(row));
+    let c = spaced(&without_comments(&read("include/station.h")));
+    let row = "struct station_head_row { uint32_t tip; uint32_t sequence; uint32_t kind; \
+               uint32_t anchor; };";
+    assert!(c.contains(row));
+}
+
+#[test]
+fn the_kinds() {
+    let rules = read("crates/rules/src/lib.rt");
+    let header = read("include/station.h");
+    for (kind, number) in [("STORED", 0), ("CONNECTED", 1)] {
+        assert!(rules.contains(&format!("pub const {kind}: HeadKind = HeadKind({number});")));
+        assert!(header.contains(&format!("STATION_HEAD_{kind} = {number}")), "{kind}");
+    }
+}
+
+#[test]
 fn the_refusals() {
     let header = read("include/station.h");
     for refusal in Refusal::ALL {
@@ -117,20 +146,26 @@ impl Entry {
 
 fn argument_in_c(name: &str, kind: &str) -> String {
     let slice = |kind: &str| kind.strip_suffix(']').map(in_c);
-    if kind == "&mut ActiveHead" {
-        format!("struct station_active_head *{name}")
-    } else if let Some(item) = kind.strip_prefix("&mut [").and_then(slice) {
+    if let Some(item) = kind.strip_prefix("&mut [").and_then(slice) {
         format!("{item} *{name}, size_t {name}_len")
     } else if let Some(item) = kind.strip_prefix("&[").and_then(slice) {
         format!("const {item} *{name}, size_t {name}_len")
+    } else if let Some(record) = kind.strip_prefix("&mut ") {
+        format!("{} *{name}", in_c(record))
     } else {
         format!("{} {name}", in_c(kind))
     }
 }
 
-fn in_c(number: &str) -> String {
-    let bits = number.strip_prefix('u').expect("an unsigned number");
-    format!("uint{bits}_t")
+fn in_c(kind: &str) -> String {
+    match kind {
+        "ActiveHead" => "struct station_active_head".to_string(),
+        "HeadRow" => "struct station_head_row".to_string(),
+        number => {
+            let bits = number.strip_prefix('u').expect("an unsigned number");
+            format!("uint{bits}_t")
+        }
+    }
 }
 
 fn entries() -> Vec<Entry> {
@@ -156,6 +191,12 @@ fn read(file: &str) -> String {
 fn spaced(text: &str) -> String {
     let words: Vec<&str> = text.split_whitespace().collect();
     words.join(" ").replace("( ", "(").replace(" )", ")")
+}
+
+/// The text of a C file without what stands between `/*` and `*/`.
+fn without_comments(text: &str) -> String {
+    let parts = text.split("/*").map(|part| part.split_once("*/").map_or(part, |(_, code)| code));
+    parts.collect()
 }
 
 /// `HashLength` as `HASH_LENGTH`.

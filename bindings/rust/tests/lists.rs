@@ -1,6 +1,9 @@
 //! Random lists of calls from fresh tables: what is proved of them, looked at through the crate.
 
-use station::{Anchor, BlockSlot, MOST_BLOCKS, MOST_HEADS, Refusal, Sequence, Tables, Under};
+use station::{
+    Anchor, BlockSlot, Head, HeadKind, MOST_BLOCKS, MOST_HEADS, Refusal, Sequence, Tables, Under,
+};
+use std::cmp::Reverse;
 use std::collections::HashMap;
 
 /// Numbers that look random, from Knuth's linear congruence.
@@ -86,7 +89,22 @@ fn check(tables: &Tables, promoted: &HashMap<BlockSlot, [u8; 32]>) {
         assert_eq!(tables.walks_to_active_chain(head.tip), head.connected);
     }
     assert_eq!(tables.heads().count(), tables.head_count());
+    check_screen(tables);
     assert_eq!(Tables::from_bytes(&tables.to_bytes()).as_ref(), Ok(tables), "saved and loaded");
+}
+
+fn check_screen(tables: &Tables) {
+    let mut heads: Vec<Head> = tables.heads().collect();
+    heads.sort_by_key(|head| {
+        let tip = tables.get(head.tip).expect("a block");
+        (Reverse(tip.sequence), tip.hash, head.slot)
+    });
+    let rows = heads.iter().map(|head| {
+        let kind = if head.connected { HeadKind::Connected } else { HeadKind::Stored };
+        (head.tip, tables.get(head.tip).map(|tip| tip.sequence), kind, head.anchor)
+    });
+    let screen = tables.screen().map(|row| (row.tip(), row.sequence(), row.kind(), row.anchor()));
+    assert!(screen.eq(rows), "the screen of {heads:?}");
 }
 
 /// A chain of 1,024 blocks that arrives from its tip on.

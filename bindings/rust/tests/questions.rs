@@ -1,8 +1,8 @@
 //! The questions, on the tables of the scope's trial, and what is shown of them.
 
 use station::{
-    Anchor, Block, BlockSlot, Head, HeadSlot, MOST_BLOCKS, MOST_HEADS, NONE_REF, Parts, Rank,
-    Refusal, Request, Sequence, Status, Tables, Under,
+    Anchor, Block, BlockSlot, Head, HeadKind, HeadRow, HeadSlot, MOST_BLOCKS, MOST_HEADS, NONE_REF,
+    Parts, Rank, Refusal, Request, Sequence, Status, Tables, Under,
 };
 use std::cmp::Ordering;
 use std::collections::HashSet;
@@ -157,6 +157,98 @@ fn heads() -> Result<(), Refusal> {
     Ok(())
 }
 
+type Row = (u32, Option<u32>, HeadKind, Option<u32>);
+
+/// The tip, its sequence, the kind and the anchor of a record.
+fn fields(row: &HeadRow) -> Row {
+    let anchor = row.anchor().map(|slot| slot.0);
+    (row.tip().0, row.sequence().map(|sequence| sequence.0), row.kind(), anchor)
+}
+
+fn screen(tables: &Tables) -> Vec<Row> {
+    tables.screen().map(|row| fields(&row)).collect()
+}
+
+#[test]
+fn the_head_screen() -> Result<(), Refusal> {
+    let mut tables = after_the_trial()?;
+    let expected =
+        [(3, Some(7), HeadKind::Stored, Some(3)), (2, Some(6), HeadKind::Connected, Some(0))];
+    assert_eq!(screen(&tables), expected);
+
+    let first = tables.screen().next().expect("a head");
+    let shown = "HeadRow { tip: BlockSlot(3), sequence: Some(Sequence(7)), kind: Stored, \
+                 anchor: Some(BlockSlot(3)) }";
+    assert_eq!(format!("{first:?}"), shown);
+    assert_eq!(fields(&HeadRow::default()), (NONE_REF, None, HeadKind::Stored, None));
+
+    for row in tables.screen() {
+        tables.remove(row.tip())?;
+    }
+    assert_eq!(screen(&tables), [(0, Some(5), HeadKind::Connected, Some(0))]);
+    Ok(())
+}
+
+#[test]
+fn records_past_the_last_head_stay() -> Result<(), Refusal> {
+    let mut tables = after_the_trial()?;
+    let before = tables.screen().last().expect("a head");
+    tables.remove(before.tip())?;
+    tables.remove(BlockSlot(3))?;
+    let mut rows = [before; MOST_HEADS];
+    assert_eq!(tables.fill_screen(&mut rows)?, 1);
+    assert_eq!(fields(&rows[0]), (0, Some(5), HeadKind::Connected, Some(0)));
+    assert_eq!(rows[1..], [before; MOST_HEADS - 1]);
+    Ok(())
+}
+
+/// Tables adopted with blocks of these sequences and hashes, and heads of these tips; the head in slot
+/// k has anchor k and the flag byte k.
+fn with_tips(blocks: &[(u32, u8)], tips: &[u32]) -> Result<Tables, Refusal> {
+    let fresh = Tables::new(blocks.len(), tips.len())?.into_parts();
+    Tables::from_parts(Parts {
+        hashes: blocks.iter().flat_map(|block| hash(block.1)).collect(),
+        sequences: blocks.iter().map(|block| block.0).collect(),
+        tips: tips.to_vec(),
+        tails: (0..).take(tips.len()).collect(),
+        connected: (0..).take(tips.len()).collect(),
+        ..fresh
+    })
+}
+
+#[test]
+fn the_order_of_the_screen() -> Result<(), Refusal> {
+    let blocks = [(5, 1), (9, 8), (9, 7), (NONE_REF, 9), (5, 0), (NONE_REF - 1, 1), (9, 8)];
+    // The highest sequence, then the lowest hash, then the lowest slot, where tip or hash are shared.
+    let order = |tips: &[u32]| {
+        let tables = with_tips(&blocks, tips)?;
+        Ok(tables.screen().filter_map(|row| row.anchor()).map(|slot| slot.0).collect::<Vec<_>>())
+    };
+    assert_eq!(order(&[0, 1, 5])?, [2, 1, 0]);
+    assert_eq!(order(&[0, 1, 2, 4])?, [2, 1, 3, 0]);
+    assert_eq!(order(&[6, 1, 2, 6, 1])?, [2, 0, 1, 3, 4]);
+    assert_eq!(order(&[0, NONE_REF, 0, NONE_REF])?, [0, 2]);
+    // A tip that is empty or out of range, whatever bytes its slot has.
+    assert_eq!(order(&[5, 3, 0, 7, 3])?, [1, 3, 4, 0, 2]);
+    Ok(())
+}
+
+#[test]
+fn the_screen_of_damaged_tables() -> Result<(), Refusal> {
+    let tables = with_tips(&[(5, 1), (NONE_REF, 9)], &[0, 1, 2, NONE_REF - 1])?;
+    let mut parts = tables.into_parts();
+    parts.tails[2] = NONE_REF;
+    parts.connected = vec![254, 255, 2, 129];
+    let expected = [
+        (1, None, HeadKind::Connected, Some(1)),
+        (2, None, HeadKind::Stored, None),
+        (NONE_REF - 1, None, HeadKind::Connected, Some(3)),
+        (0, Some(5), HeadKind::Stored, Some(0)),
+    ];
+    assert_eq!(screen(&Tables::from_parts(parts)?), expected);
+    Ok(())
+}
+
 #[test]
 fn timers() -> Result<(), Refusal> {
     let mut tables = after_the_trial()?;
@@ -219,8 +311,10 @@ fn answers_in_a_set() -> Result<(), Refusal> {
     let heads: HashSet<Head> = tables.heads().collect();
     let under: HashSet<Under> =
         tables.blocks().filter_map(|(slot, _)| tables.under(slot).ok()).collect();
+    let rows: HashSet<HeadRow> = tables.screen().collect();
     let asked: HashSet<Option<Request>> = [tables.timer(30, None)?, None].into();
-    assert_eq!((blocks.len(), heads.len(), under.len(), asked.len()), (3, 2, 3, 2));
+    assert_eq!((blocks.len(), heads.len(), under.len()), (3, 2, 3));
+    assert_eq!((rows.len(), asked.len()), (2, 2));
     Ok(())
 }
 

@@ -1,6 +1,8 @@
 //! Each refusal by its number, in its order, with the tables left as they stood.
 
-use station::{BlockSlot, MOST_BLOCKS, MOST_HEADS, NONE_REF, Parts, Refusal, Sequence, Tables};
+use station::{
+    BlockSlot, HeadRow, MOST_BLOCKS, MOST_HEADS, NONE_REF, Parts, Refusal, Sequence, Tables,
+};
 use std::collections::HashSet;
 use std::error::Error;
 
@@ -155,6 +157,19 @@ fn holds_active_9() {
     assert_eq!(refused(&mut tables, |t| t.remove(first)), 9, "below an active block");
 }
 
+#[test]
+fn short_list_10() {
+    let before: Vec<HeadRow> = confirmed().screen().collect();
+    let mut tables = Tables::new(4, 3).unwrap();
+    for room in 0..3 {
+        let mut rows = before.iter().copied().cycle().take(room).collect::<Vec<HeadRow>>();
+        let kept = rows.clone();
+        assert_eq!(refused(&mut tables, |t| t.fill_screen(&mut rows)), 10, "{room}");
+        assert_eq!(rows, kept, "the list of a refused call");
+    }
+    assert_eq!(tables.fill_screen(&mut [HeadRow::default(); 3]), Ok(0));
+}
+
 /// Slots 1 and 2 are siblings, and 1 is the active head.
 fn confirmed() -> Tables {
     let mut tables = Tables::new(4, 2).unwrap();
@@ -206,15 +221,15 @@ fn record_101() {
 #[test]
 fn numbers_and_words() {
     let numbers: Vec<u32> = Refusal::ALL.into_iter().map(Refusal::number).collect();
-    assert_eq!(numbers, (1..=9).chain(100..=101).collect::<Vec<u32>>());
+    assert_eq!(numbers, (1..=10).chain(100..=101).collect::<Vec<u32>>());
     for refusal in Refusal::ALL {
         assert_eq!(Refusal::from_number(refusal.number()), Some(refusal));
     }
     assert_eq!(Refusal::from_number(0), None);
-    assert_eq!(Refusal::from_number(10), None);
+    assert_eq!(Refusal::from_number(11), None);
 
     let words: HashSet<String> = Refusal::ALL.iter().map(Refusal::to_string).collect();
-    assert_eq!(words.len(), 11);
+    assert_eq!(words.len(), 12);
     let error: Box<dyn Error> = Refusal::Full.into();
     assert_eq!(error.to_string(), "no block slot is empty");
 }

@@ -1,7 +1,7 @@
 //! The trial's scripts in `examples/`, run on [`Tables`]: the answers and the tables at the end are
 //! those that the trial program prints. `unread` is about that program's lines alone.
 
-use station::{BlockSlot, Hash, Refusal, Sequence, Tables};
+use station::{BlockSlot, Hash, HeadKind, HeadRow, Refusal, Sequence, Tables};
 use std::fmt::Display;
 use std::path::Path;
 use std::{env, fs};
@@ -38,7 +38,7 @@ fn printed(script: &str) -> String {
         out += &format!("B {slot} {} {parent} {} {active}\n", block.sequence, block.count);
     }
     for head in tables.heads() {
-        let kind = if head.connected { "C" } else { "S" };
+        let kind = letter(head.connected);
         out += &format!("H {} {} {kind} {}\n", head.slot, head.tip, or_dash(head.anchor));
     }
     out
@@ -67,6 +67,7 @@ fn answer(tables: &mut Option<Tables>, line: &str) -> Result<String, Refusal> {
             let under = tables.under(BlockSlot(number(slot)))?;
             format!("U {} {}\n", under.blocks, under.highest)
         }
+        ["V"] => tables.screen().map(|row| shown(&row)).collect(),
         ["T", now, retry] => match tables.timer(number(now), Some(number(retry)))? {
             Some(due) => format!("T {} {} {:02x}\n", due.head, due.sequence, due.hash[0]),
             None => "T -\n".to_string(),
@@ -77,6 +78,16 @@ fn answer(tables: &mut Option<Tables>, line: &str) -> Result<String, Refusal> {
         }
         _ => panic!("not a line: {line}"),
     })
+}
+
+fn shown(row: &HeadRow) -> String {
+    let (sequence, anchor) = (or_dash(row.sequence()), or_dash(row.anchor()));
+    let kind = letter(row.kind() == HeadKind::Connected);
+    format!("V {} {sequence} {kind} {anchor}\n", row.tip())
+}
+
+fn letter(connected: bool) -> char {
+    if connected { 'C' } else { 'S' }
 }
 
 fn number<T: TryFrom<u64>>(word: &str) -> T {

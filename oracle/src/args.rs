@@ -33,6 +33,8 @@ pub struct Args {
     pub previous_length: usize,
     /// The retry span, where one is given.
     pub span: Option<u64>,
+    /// How many records more than head slots the list of a screen has, or fewer.
+    pub more: i8,
     /// How the buffers that a call gets are put out of shape.
     pub misfit: Option<Misfit>,
 }
@@ -81,6 +83,7 @@ impl Args {
             see(Field::Hash(hash));
         }
         self.span.iter_mut().for_each(|span| see(Field::Time(span)));
+        see(Field::Change(&mut self.more));
     }
 
     /// The arguments by name, as they are shown.
@@ -107,6 +110,7 @@ impl Args {
             ("hash_length", self.hash_length.to_string()),
             ("previous_length", self.previous_length.to_string()),
             ("span", format!("{:?}", self.span)),
+            ("more", self.more.to_string()),
             ("misfit", format!("{:?}", self.misfit)),
         ]
     }

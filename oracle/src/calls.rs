@@ -1,9 +1,11 @@
-//! The calls of the scope document, and what hangs under a block, which writes nothing and is no call
-//! of a list: what each takes and answers, and its line in the trial program.
+//! The calls of the scope document, and what hangs under a block and the head screen, which leave the
+//! tables and are no calls of a list: what each takes and answers, and its line in the trial program.
 //! Where the trial has no form, it is our own: `N` alone is fresh, `L retry` asks for the earliest
-//! deadline, `-` in place of a retry is none given, and `x` comes before a hash of other bytes.
+//! deadline, `-` in place of a retry is none given, `x` comes before a hash of other bytes, and `V +1`
+//! or `V -1` gives the screen a list of so many records more or fewer than there are head slots.
 
-use crate::tables::Recovery;
+use crate::screen::Row;
+use crate::tables::{Recovery, Tables};
 use crate::under::Under;
 use std::fmt;
 
@@ -17,15 +19,17 @@ pub enum Call {
     Deadline { span: Option<u64> },
     Restart { now: u64 },
     Under { slot: u32 },
+    Screen { more: i8 },
 }
 
-#[derive(Debug, Clone, Copy, PartialEq, Eq)]
+#[derive(Debug, Clone, PartialEq, Eq)]
 pub enum Answer {
     Slot(u32),
     Freed(u32),
     Asked(Option<Recovery>),
     Due(Option<u64>),
     Under(Under),
+    Screen(Vec<Row>),
     Done,
     /// What the port returned where it is none of the call's answers.
     Unread(u64),
@@ -37,8 +41,8 @@ pub type Refusal = u8;
 pub type Reply = Result<Answer, Refusal>;
 
 impl Call {
-    pub const NAMES: [&str; 8] =
-        ["fresh", "admit", "promote", "remove", "timer", "deadline", "restart", "under"];
+    pub const NAMES: [&str; 9] =
+        ["fresh", "admit", "promote", "remove", "timer", "deadline", "restart", "under", "screen"];
 
     /// The place of the call's name.
     pub fn kind(&self) -> usize {
@@ -51,6 +55,7 @@ impl Call {
             Call::Deadline { .. } => 5,
             Call::Restart { .. } => 6,
             Call::Under { .. } => 7,
+            Call::Screen { .. } => 8,
         }
     }
 
@@ -71,6 +76,8 @@ impl Call {
             ["L", span] => Call::Deadline { span: read_span(span)? },
             ["R", now] => Call::Restart { now: now.parse().ok()? },
             ["U", slot] => Call::Under { slot: slot.parse().ok()? },
+            ["V"] => Call::Screen { more: 0 },
+            ["V", more] => Call::Screen { more: more.parse().ok()? },
             _ => return None,
         })
     }
@@ -89,8 +96,15 @@ impl fmt::Display for Call {
             Call::Deadline { span } => write!(f, "L {}", span_word(*span)),
             Call::Restart { now } => write!(f, "R {now}"),
             Call::Under { slot } => write!(f, "U {slot}"),
+            Call::Screen { more: 0 } => write!(f, "V"),
+            Call::Screen { more } => write!(f, "V {more:+}"),
         }
     }
+}
+
+/// How many records the list of a screen has, at least none.
+pub fn room(t: &Tables, more: i8) -> usize {
+    t.m().saturating_add_signed(more.into())
 }
 
 fn read_hash(word: &str) -> Option<Vec<u8>> {

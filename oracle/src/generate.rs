@@ -85,9 +85,13 @@ pub fn args(r: &mut Random, t: &Tables) -> Args {
         hash_length: hash_length(r),
         previous_length: hash_length(r),
         span: given_span(r),
+        more: r.pick(&MORE),
         misfit: if r.percent(8) { Some(misfit(r)) } else { None },
     }
 }
+
+/// How many records more than head slots a list has, or fewer.
+pub const MORE: [i8; 6] = [-128, -1, 0, 1, 2, 100];
 
 /// Lengths that a hash cannot have.
 pub(crate) const LENGTHS: [usize; 6] = [0, 1, 16, 31, 33, 64];

@@ -1,10 +1,11 @@
 //! The original's side of the calls, put together from its functions as the scope document says.
-//! The refusals are read off that document too, in its order. What hangs under a block is a model's,
-//! and on tables that calls have reached the original's too.
+//! The refusals are read off that document too, in its order. What hangs under a block and the head
+//! screen are models', and the first is the original's too on tables that calls have reached.
 
 use crate::buffers::BUFFERS;
-use crate::calls::{Answer, Call, Refusal, Reply};
+use crate::calls::{Answer, Call, Refusal, Reply, room};
 use crate::original::*;
+use crate::screen::screen;
 use crate::tables::{Block, BlockStatus, Hash, Head, NONE_REF, Tables};
 use crate::under::{Under, under};
 
@@ -45,6 +46,16 @@ pub fn run(call: &Call, t: &mut Tables) -> Reply {
             Ok(Answer::Done)
         }
         Call::Under { slot } => under(t, slot).map(Answer::Under).ok_or(3),
+        Call::Screen { more } if room(t, more) < t.m() => Err(10),
+        Call::Screen { .. } => Ok(Answer::Screen(screen(t))),
+    }
+}
+
+/// The reply to what is asked on tables that calls have reached.
+pub fn asked(question: &Call, t: &mut Tables) -> Reply {
+    match *question {
+        Call::Under { slot } => listed(t, slot),
+        _ => run(question, t),
     }
 }
 

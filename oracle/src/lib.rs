@@ -19,14 +19,17 @@ pub mod port;
 pub mod promises;
 pub mod random;
 pub mod rings;
+pub mod screen;
 pub mod scripts;
 pub mod shorten;
 pub mod show;
+pub mod shown;
 pub mod shrink;
 pub mod single;
 pub mod station;
 pub mod tables;
 pub mod tally;
+pub mod tips;
 pub mod under;
 
 mod entries;

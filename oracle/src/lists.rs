@@ -1,6 +1,6 @@
 //! Lists of calls from fresh tables: each call runs on both sides on the same tables, the answers,
 //! every byte of the tables and the record must agree, and then the promises must hold, and the port
-//! must say of the slots what the original lists under them.
+//! must say of the slots what the original lists under them, and show the heads as the model does.
 
 use crate::calls::{Call, Reply};
 use crate::functions::{Difference, compare};
@@ -25,9 +25,9 @@ pub enum Trouble {
         after: Box<Tables>,
         why: String,
     },
-    /// The port does not say of this slot of the tables what the original lists under it.
-    Under {
-        slot: u32,
+    /// The port gives another answer to a question that is asked on the tables.
+    Asked {
+        question: Call,
         found: Box<Difference>,
     },
 }
@@ -62,21 +62,22 @@ impl Reached {
         }
     }
 
-    /// What the port says of the slots: it is what the original lists under each.
+    /// The questions, and what the port replies to each.
     pub fn ask(&self) -> Result<Vec<(Call, Reply)>, Trouble> {
-        let ask = |slot| {
-            let call = Call::Under { slot };
-            match compare(&self.tables, |t| judge::listed(t, slot), |t| station::run(&call, t)) {
-                Err(found) => Err(Trouble::Under { slot, found }),
-                Ok((reply, _)) => Ok((call, reply)),
+        let ask = |question: Call| {
+            let judged = |t: &mut Tables| judge::asked(&question, t);
+            match compare(&self.tables, judged, |t| station::run(&question, t)) {
+                Err(found) => Err(Trouble::Asked { question, found }),
+                Ok((reply, _)) => Ok((question, reply)),
             }
         };
-        self.asked().map(ask).collect()
+        let under = self.slots().map(|slot| Call::Under { slot });
+        under.chain([Call::Screen { more: 0 }]).map(ask).collect()
     }
 
     /// The slots to ask for, the first beyond the table among them. The original's lists take long
     /// on large tables; there they are some of the slots, and others after the next call.
-    fn asked(&self) -> impl Iterator<Item = u32> {
+    fn slots(&self) -> impl Iterator<Item = u32> {
         let slots = self.tables.n() + 1;
         let every = match slots {
             0..=13 => 1,

@@ -11,7 +11,7 @@ use crate::scripts::{self, Script};
 use crate::single::{self, SINGLES, Single};
 use crate::tables::Tables;
 use crate::tally::Tally;
-use crate::{generate, rings, shorten, show, shrink};
+use crate::{generate, rings, shorten, show, shrink, tips};
 use std::time::{Duration, Instant};
 
 /// The seed of the random modes, and how many rounds each makes.
@@ -26,12 +26,13 @@ pub type Compared = Result<u64, String>;
 /// A mode by its name.
 pub type Mode = (&'static str, fn(&Bounds) -> Compared);
 
-pub const MODES: [Mode; 5] = [
+pub const MODES: [Mode; 6] = [
     ("functions", functions),
     ("exhaustive", exhaustive),
     ("lists", lists),
     ("damaged", damaged),
     ("under", under),
+    ("screen", screen),
 ];
 
 impl Bounds {
@@ -167,6 +168,17 @@ fn under(bounds: &Bounds) -> Compared {
     })
 }
 
+/// A round is one random table of any size, and its screen in lists of each length.
+fn screen(bounds: &Bounds) -> Compared {
+    let single = single::named("screen");
+    singles(bounds, 100_000, |random, round| {
+        let tables = tips::tables(random, round);
+        let mut args = |more| Args { more, ..generate::args(random, &tables) };
+        let calls = generate::MORE.into_iter().map(|more| (single, args(more))).collect();
+        (tables, calls)
+    })
+}
+
 /// Single calls with what each is given.
 type Singles = Vec<(&'static Single, Args)>;
 
@@ -229,7 +241,7 @@ fn shortest_list(list: List, origin: &str) -> String {
     let (calls, n, m) = (list.calls.len(), list.n, list.m);
     let (short, trouble) = shorten::shorten(list);
     let what = match trouble {
-        Trouble::Differs(_) | Trouble::Under { .. } => "DIFFERENCE",
+        Trouble::Differs(_) | Trouble::Asked { .. } => "DIFFERENCE",
         Trouble::Broken { .. } => "BROKEN PROMISE",
     };
     format!(

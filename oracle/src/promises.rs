@@ -47,8 +47,8 @@ impl Ledger {
     }
 
     fn note(&mut self, call: &Call, answer: &Answer) -> Result<(), String> {
-        match (call, *answer) {
-            (Call::Admit { sequence, hash, .. }, Answer::Slot(slot)) => {
+        match (call, answer) {
+            (Call::Admit { sequence, hash, .. }, &Answer::Slot(slot)) => {
                 let hash = hash.as_slice().try_into().map_err(|_| "a hash of another length")?;
                 if self.is_active(slot) {
                     return Err(format!("slot {slot} of an active block is given to another"));
@@ -66,7 +66,8 @@ impl Ledger {
             | (Call::Timer { .. }, Answer::Asked(_))
             | (Call::Deadline { .. }, Answer::Due(_))
             | (Call::Restart { .. }, Answer::Done)
-            | (Call::Under { .. }, Answer::Under(_)) => {}
+            | (Call::Under { .. }, Answer::Under(_))
+            | (Call::Screen { .. }, Answer::Screen(_)) => {}
             _ => return Err("the answer is not one of the call's".to_string()),
         }
         Ok(())

@@ -12,7 +12,8 @@ pub fn difference(case: &Case, found: &Difference) -> String {
     let taken = taken.iter().filter(|(name, _)| case.function.takes.contains(name));
     let taken: Vec<String> = taken.map(|(name, value)| format!("{name} {value}")).collect();
     let call = format!("{}({})", case.function.name, taken.join(", "));
-    let judge = if case.function.name == "under" { "the model" } else { "the original" };
+    let has_model = ["under", "screen"].contains(&case.function.name);
+    let judge = if has_model { "the model" } else { "the original" };
     format!("{call}\n\n{}", sides(&case.tables, found, judge))
 }
 
@@ -20,13 +21,16 @@ pub fn difference(case: &Case, found: &Difference) -> String {
 /// asked after the list counts as a call.
 pub fn list(list: &List, trouble: &Trouble) -> String {
     let asked = match trouble {
-        Trouble::Under { slot, .. } => Some(Call::Under { slot: *slot }),
+        Trouble::Asked { question, .. } => Some(question),
         _ => None,
     };
-    let calls = list.calls.iter().chain(&asked).map(|call| format!("\n{call}"));
+    let calls = list.calls.iter().chain(asked).map(|call| format!("\n{call}"));
     let calls = format!("N {} {}{}", list.n, list.m, calls.collect::<String>());
     let last = match trouble {
-        Trouble::Differs(found) | Trouble::Under { found, .. } => {
+        Trouble::Asked { question: Call::Screen { .. }, found } => {
+            sides(&found.before, found, "the model")
+        }
+        Trouble::Differs(found) | Trouble::Asked { found, .. } => {
             sides(&found.before, found, "the original")
         }
         Trouble::Broken { before, after, why } => {

@@ -42,6 +42,7 @@ pub static SINGLES: &[Single] = &[
     single!(deadline(span), |args| Call::Deadline { span: args.span }),
     single!(restart(now), |args| Call::Restart { now: args.now }),
     single!(under(slot), |args| Call::Under { slot: args.slot }),
+    single!(screen(more), |args| Call::Screen { more: args.more }),
 ];
 
 /// The call of this name.

@@ -1,8 +1,10 @@
 //! The port's side of the calls, by the C entry points of `libstation.a`. The upper half of an
 //! answer is the refusal's number, or 0; the lower half is the answer.
 
-use crate::calls::{Answer, Call, Refusal, Reply};
+use crate::calls::{Answer, Call, Refusal, Reply, room};
 use crate::entries::{call, entries};
+use crate::random::Random;
+use crate::screen::Row;
 use crate::tables::{NONE_REF, Recovery, SPARE, Tables};
 use crate::under::Under;
 
@@ -23,10 +25,14 @@ entries! {
     station_earliest_deadline([all], u32, u64, [mut u64]) -> u64;
     station_restart([all], u32, u64) -> u64;
     station_under([all], u32, [mut u32]) -> u64;
+    station_screen([all], [mut Row]) -> u64;
 }
 
 /// What each byte of a place for an answer holds before the call.
 const UNWRITTEN: u8 = 0x5a;
+
+/// How many records are looked at beyond a list's end.
+const BEYOND: usize = 2;
 
 pub fn run(call: &Call, t: &mut Tables) -> Reply {
     match *call {
@@ -51,6 +57,7 @@ pub fn run(call: &Call, t: &mut Tables) -> Reply {
             read(call!(station_restart([all t], active, now)), done)
         }
         Call::Under { slot } => under(t, slot),
+        Call::Screen { more } => screen(t, room(t, more)),
     }
 }
 
@@ -59,7 +66,7 @@ fn read(answer: u64, means: impl FnOnce(u32) -> Option<Answer>) -> Reply {
     let (refusal, said) = ((answer >> 32) as u32, answer as u32);
     match (refusal, said) {
         (0, said) => Ok(means(said).unwrap_or(Answer::Unread(answer))),
-        (1..=9, 0) => Err(refusal as Refusal),
+        (1..=10, 0) => Err(refusal as Refusal),
         _ => Ok(Answer::Unread(answer)),
     }
 }
@@ -115,6 +122,30 @@ fn under(t: &mut Tables, slot: u32) -> Reply {
     let reply = read(answer, |blocks| Some(Answer::Under(Under { blocks, highest })));
     let kept = next == SPARE && (reply.is_ok() || highest == SPARE);
     if kept && alone == answer { reply } else { Ok(Answer::Unread(answer)) }
+}
+
+fn screen(t: &mut Tables, room: usize) -> Reply {
+    let before = noise(room + BEYOND);
+    let mut after = before.clone();
+    let answer = call!(station_screen([all t], [mut after[..room]]));
+    filled(answer, &before, &after, room)
+}
+
+/// The reply of a screen, by what it did to a list of so many records and to those beyond. They are
+/// written to the first places where the call is accepted, and only there.
+pub fn filled(answer: u64, before: &[Row], after: &[Row], room: usize) -> Reply {
+    let written = |rows: u32| after[..room].get(..rows as usize);
+    let reply = read(answer, |rows| written(rows).map(|rows| Answer::Screen(rows.to_vec())));
+    let rows = if let Ok(Answer::Screen(rows)) = &reply { rows.len() } else { 0 };
+    if after[rows..] == before[rows..] { reply } else { Ok(Answer::Unread(answer)) }
+}
+
+/// What the places of a list hold before the call, each something else.
+pub fn noise(places: usize) -> Vec<Row> {
+    let mut random = Random::new(SPARE.into());
+    let mut word = || random.word() as u32;
+    let mut row = || Row { tip: word(), sequence: word(), kind: word(), anchor: word() };
+    (0..places).map(|_| row()).collect()
 }
 
 /// Whether a span is given, and the span. One that is not given is a number that would be noticed.

@@ -3,6 +3,7 @@
 
 use crate::beneath::Beneath;
 use crate::calls::{Answer, Call, Reply};
+use crate::shown::Shown;
 use crate::tables::{NONE_REF, Tables};
 use std::fmt;
 
@@ -11,9 +12,10 @@ const KINDS: usize = Call::NAMES.len();
 #[derive(Default)]
 pub struct Tally {
     accepted: [u64; KINDS],
-    refused: [[u64; 10]; KINDS],
+    refused: [[u64; 11]; KINDS],
     met: Met,
     beneath: Beneath,
+    shown: Shown,
 }
 
 /// What accepted calls did.
@@ -44,6 +46,7 @@ impl Tally {
             (Call::Under { slot }, Ok(Answer::Under(under))) => {
                 self.beneath.note(before, *slot, under.blocks);
             }
+            (Call::Screen { more }, reply) => self.shown.note(before, *more, reply),
             (_, Ok(answer)) => self.met.note(call, answer, before, after),
             _ => {}
         }
@@ -75,8 +78,8 @@ impl Met {
     fn note(&mut self, call: &Call, answer: &Answer, before: &Tables, after: &Tables) {
         let is_empty = |t: &Tables, slot: usize| t.sequences[slot] == NONE_REF;
         let frees = || (0..before.n()).any(|slot| !is_empty(before, slot) && is_empty(after, slot));
-        match (call, *answer) {
-            (Call::Admit { .. }, Answer::Slot(slot)) => {
+        match (call, answer) {
+            (Call::Admit { .. }, &Answer::Slot(slot)) => {
                 let is_late = |at: &usize| !is_empty(before, *at) && after.parents[*at] == slot;
                 let linked = (0..before.n()).filter(is_late).count() as u64;
                 let empty = (0..before.n()).filter(|&at| is_empty(before, at)).count();
@@ -90,7 +93,7 @@ impl Met {
                 self.filling_largest += u64::from(empty == 1 && before.n() == 1024);
             }
             (Call::Restart { .. }, _) => self.restarts_evicting += u64::from(frees()),
-            (Call::Remove { .. }, Answer::Freed(freed)) => self.subtrees += u64::from(freed > 1),
+            (Call::Remove { .. }, Answer::Freed(freed)) => self.subtrees += u64::from(*freed > 1),
             (_, Answer::Asked(Some(_))) => self.requests += 1,
             (_, Answer::Due(Some(_))) => self.deadlines += 1,
             _ => {}
@@ -113,6 +116,9 @@ impl fmt::Display for Tally {
         }
         if self.beneath != Beneath::default() {
             write!(f, "{}", self.beneath)?;
+        }
+        if self.shown != Shown::default() {
+            write!(f, "{}", self.shown)?;
         }
         Ok(())
     }

@@ -48,6 +48,9 @@ fn each_call_has_a_line() {
         "L -",
         "R 9",
         "U 3",
+        "V",
+        "V +1",
+        "V -128",
     ];
     for line in lines {
         assert_eq!(Call::read(line).map(|call| call.to_string()), Some(line.to_string()));

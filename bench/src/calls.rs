@@ -1,6 +1,6 @@
 //! The calls as both sides have them, and lists of one kind of call.
 
-use station::{Hash, Parts};
+use station::{Hash, NONE_REF, Parts};
 use std::hint::black_box;
 
 pub type Refusal = u8;
@@ -29,6 +29,20 @@ pub struct Under {
     pub highest: u32,
 }
 
+/// A record of the head screen; the kind is 1 for a connected head.
+#[derive(Debug, Clone, Copy, PartialEq, Eq)]
+pub struct Row {
+    pub tip: u32,
+    pub sequence: u32,
+    pub kind: u32,
+    pub anchor: u32,
+}
+
+impl Row {
+    /// What a list has where nothing was written.
+    pub const NONE: Row = Row { tip: NONE_REF, sequence: NONE_REF, kind: 0, anchor: NONE_REF };
+}
+
 /// The original or the port, with its tables and the record.
 pub trait Side {
     fn fresh(&mut self) -> Result<(), Refusal>;
@@ -39,10 +53,14 @@ pub trait Side {
     fn deadline(&mut self, span: Option<u64>) -> Result<Option<u64>, Refusal>;
     fn restart(&mut self, now: u64) -> Result<(), Refusal>;
     fn under(&mut self, slot: u32) -> Result<Under, Refusal>;
+    /// Fills the side's list, which has a record for each head slot.
+    fn screen(&mut self) -> Result<u32, Refusal>;
 
     /// Takes the tables and the record of the other.
     fn restore(&mut self, from: &Self);
     fn show(&self) -> Parts;
+    /// The list of the screen.
+    fn rows(&self) -> Vec<Row>;
 }
 
 #[derive(Debug, PartialEq, Eq)]
@@ -114,12 +132,13 @@ pub enum List {
     Deadline(Vec<Option<u64>>),
     Restart(Vec<u64>),
     Under(Vec<u32>),
+    Screen(usize),
 }
 
 impl List {
     pub fn len(&self) -> usize {
         match self {
-            List::Fresh(times) => *times,
+            List::Fresh(times) | List::Screen(times) => *times,
             List::Admit(calls) => calls.len(),
             List::Promote(slots) | List::Remove(slots) | List::Under(slots) => slots.len(),
             List::Timer(calls) => calls.len(),
@@ -148,6 +167,7 @@ impl List {
                 calls.iter().for_each(|c| taker.take(side.restart(black_box(*c))))
             }
             List::Under(calls) => calls.iter().for_each(|c| taker.take(side.under(black_box(*c)))),
+            List::Screen(times) => (0..*times).for_each(|_| taker.take(side.screen())),
         }
     }
 

@@ -17,7 +17,7 @@ pub struct Kind {
     pub at: fn(usize, usize) -> Option<Case>,
 }
 
-pub const KINDS: [Kind; 19] = [
+pub const KINDS: [Kind; 21] = [
     Kind { name: "admit: extend", at: extend },
     Kind { name: "admit: fork", at: fork },
     Kind { name: "admit: full heads, one evicted", at: evict },
@@ -32,6 +32,8 @@ pub const KINDS: [Kind; 19] = [
     Kind { name: "under: whole tree", at: under_tree },
     Kind { name: "under: deep subtree", at: under_subtree },
     Kind { name: "under: leaf", at: under_leaf },
+    Kind { name: "screen", at: screen },
+    Kind { name: "screen, heads in no order", at: scattered_screen },
     Kind { name: "timer", at: timer },
     Kind { name: "deadline", at: deadline },
     Kind { name: "restart", at: restart },
@@ -183,6 +185,14 @@ fn under_subtree(n: usize, m: usize) -> Option<Case> {
 fn under_leaf(n: usize, m: usize) -> Option<Case> {
     let shape = Shape::long(n, m);
     case(&shape, List::Under(leaves(&shape)))
+}
+
+fn screen(n: usize, m: usize) -> Option<Case> {
+    case(&Shape::long(n, m), List::Screen(64))
+}
+
+fn scattered_screen(n: usize, m: usize) -> Option<Case> {
+    case(&Shape::scattered(n, m), List::Screen(64))
 }
 
 /// So many timer calls, each of which has a head to ask for.

@@ -57,6 +57,7 @@ pub fn agree<A: Side, B: Side>(rust: &mut Pair<A>, port: &mut Pair<B>, case: &Ca
     let replies = case.timed.replies(a);
     assert_eq!(replies, case.timed.replies(b), "the replies differ");
     assert!(a.show() == b.show(), "the tables differ after the list");
+    assert_eq!(a.rows(), b.rows(), "the screens differ");
     let expected = |reply: &Result<_, u8>| reply.as_ref().err().copied() == case.refusal;
     assert!(replies.iter().all(expected), "a call is refused, or not: {replies:?}");
 }

@@ -2,7 +2,7 @@
 //! scope document says. The shape of its tables is fixed by their type, so no call tests it.
 
 use crate::blocks::{BlockEntry, BlockTable};
-use crate::calls::{Asked, Block, Refusal, Side, Under};
+use crate::calls::{Asked, Block, Refusal, Row, Side, Under};
 use crate::chain_heads::ChainHeadsTable;
 use crate::staged_validation::BlockStatus;
 use station::{Hash, NONE_REF, Parts};
@@ -14,11 +14,17 @@ pub struct Rust<const N: usize, const M: usize> {
     blocks: Box<BlockTable<N>>,
     heads: Box<ChainHeadsTable<M>>,
     active: u32,
+    rows: [Row; M],
 }
 
 impl<const N: usize, const M: usize> Rust<N, M> {
     pub fn new() -> Self {
-        Rust { blocks: BlockTable::boxed(), heads: ChainHeadsTable::boxed(), active: NONE_REF }
+        Rust {
+            blocks: BlockTable::boxed(),
+            heads: ChainHeadsTable::boxed(),
+            active: NONE_REF,
+            rows: [Row::NONE; M],
+        }
     }
 }
 
@@ -116,6 +122,18 @@ impl<const N: usize, const M: usize> Side for Rust<N, M> {
         Ok(Under { blocks: listed as u32, highest })
     }
 
+    /// Nor has it this one: the keys of the heads in use are collected and sorted.
+    #[inline(never)]
+    fn screen(&mut self) -> Result<u32, Refusal> {
+        let mut keys: Vec<Key> = Vec::with_capacity(M);
+        keys.extend(self.heads.tips().map(|(slot, tip)| key(&self.blocks, slot, tip)));
+        keys.sort_unstable_by(|a, b| b.0.cmp(&a.0).then_with(|| (a.1, a.2).cmp(&(b.1, b.2))));
+        for (row, (sequence, _, slot)) in self.rows.iter_mut().zip(&keys) {
+            *row = self.heads.row(*slot, *sequence);
+        }
+        Ok(keys.len() as u32)
+    }
+
     fn restore(&mut self, from: &Self) {
         self.blocks.restore(&from.blocks);
         self.heads.restore(&from.heads);
@@ -127,5 +145,19 @@ impl<const N: usize, const M: usize> Side for Rust<N, M> {
         self.blocks.show(&mut t);
         self.heads.show(&mut t);
         t
+    }
+
+    fn rows(&self) -> Vec<Row> {
+        self.rows.to_vec()
+    }
+}
+
+/// By what a head stands on the screen: the sequence of its tip, the hash and its own slot.
+type Key<'a> = (u32, &'a Hash, usize);
+
+fn key<const N: usize>(blocks: &BlockTable<N>, slot: usize, tip: u32) -> Key<'_> {
+    match blocks.get(tip) {
+        Some(block) => (block.sequence(), block.hash(), slot),
+        None => (NONE_REF, &[0; 32], slot),
     }
 }

@@ -27,12 +27,22 @@ impl Shape {
         Shape::new(blocks / 4, blocks - blocks / 4, heads)
     }
 
+    /// So many blocks and heads. Each branch is one block with no parent, at any height.
+    pub fn scattered(blocks: usize, heads: usize) -> Shape {
+        let mut tree = Tree::default();
+        let trunk = trunk(&mut tree, blocks + 1 - heads);
+        let mut branches = Vec::new();
+        for _ in 1..heads {
+            let [high, low, ..] = tree.hash();
+            let height = usize::from(u16::from_be_bytes([high, low])) % blocks;
+            branches.push(vec![tree.root(START + height as u32)]);
+        }
+        Shape::of(tree, trunk, branches)
+    }
+
     fn new(trunk_len: usize, rest: usize, heads: usize) -> Shape {
         let mut tree = Tree::default();
-        let first = tree.root(START);
-        let mut trunk = vec![first];
-        trunk.extend(tree.chain(&first, trunk_len - 1));
-
+        let trunk = trunk(&mut tree, trunk_len);
         let count = rest.min(heads - 1);
         let upmost = trunk_len.saturating_sub(2 + rest.div_ceil(count)).max(trunk_len / 2);
         let mut branches: Vec<Vec<Node>> = Vec::new();
@@ -46,7 +56,12 @@ impl Shape {
             let tip = branch[branch.len() - 1];
             branch.push(tree.child(&tip));
         }
-        Shape { tree, trunk, active: trunk_len - trunk_len / 16, branches }
+        Shape::of(tree, trunk, branches)
+    }
+
+    fn of(tree: Tree, trunk: Vec<Node>, branches: Vec<Vec<Node>>) -> Shape {
+        let active = trunk.len() - trunk.len() / 16;
+        Shape { tree, trunk, active, branches }
     }
 
     pub fn heads(&self) -> usize {
@@ -74,4 +89,11 @@ impl Shape {
         let promoted = self.trunk[..self.active].iter().map(|node| node.slot).collect();
         vec![List::Admit(self.tree.admitted.clone()), List::Promote(promoted)]
     }
+}
+
+fn trunk(tree: &mut Tree, len: usize) -> Vec<Node> {
+    let first = tree.root(START);
+    let mut trunk = vec![first];
+    trunk.extend(tree.chain(&first, len - 1));
+    trunk
 }

@@ -73,6 +73,7 @@ fn depths(list: &List, side: &mut impl Side, paint: u8) -> Vec<usize> {
         List::Under(calls) => {
             all.extend(calls.iter().map(|c| depth(paint, || _ = black_box(side.under(*c)))))
         }
+        List::Screen(_) => all.push(depth(paint, || _ = black_box(side.screen()))),
     }
     all
 }

@@ -1,8 +1,9 @@
 //! A child module of the original's chain_heads.rs: copies of its table, its fields in the common
-//! form, and the step that the scope document adds to admit.
+//! form, the step that the scope document adds to admit, and what a head screen is made of.
 
 use super::{ChainHeadEntry, ChainHeadsTable};
 use crate::blocks::{BlockTable, NONE_REF};
+use crate::calls::Row;
 use station::Parts;
 
 impl Clone for ChainHeadEntry {
@@ -32,6 +33,19 @@ impl<const M: usize> ChainHeadsTable<M> {
                 self.refresh_head(blocks, self.heads[slot].head_idx);
             }
         }
+    }
+
+    /// The slot and the tip of each head in use.
+    pub(crate) fn tips(&self) -> impl Iterator<Item = (usize, u32)> {
+        let all = self.heads.iter().map(|head| head.head_idx).enumerate();
+        all.filter(|(_, tip)| *tip != NONE_REF)
+    }
+
+    /// The record of a head whose tip has this sequence.
+    pub(crate) fn row(&self, slot: usize, sequence: u32) -> Row {
+        let head = &self.heads[slot];
+        let (kind, anchor) = (u32::from(head.is_connected()), head.tail_or_connection_idx);
+        Row { tip: head.head_idx, sequence, kind, anchor }
     }
 
     pub(crate) fn restore(&mut self, from: &ChainHeadsTable<M>) {

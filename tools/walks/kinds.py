@@ -1,6 +1,5 @@
 """What a walk writes for a value of each type, and for a parameter of each kind."""
 import dataclasses
-import re
 
 WIDTHS = {"u8": 8, "u16": 16, "u32": 32, "u64": 64, "usize": 64}
 SUBSCRIPTS = str.maketrans("0123456789", "₀₁₂₃₄₅₆₇₈₉")
@@ -47,6 +46,7 @@ class Number:
 
     denotes = "ℕ"
     row = property(lambda self: self.name)
+    bytes = property(lambda self: WIDTHS[self.name] // 8)
     width = property(lambda self: f"w{WIDTHS[self.name]}")
     vals = property(lambda self: f"uint-vals {self.width}")
     tells = property(lambda self: f"uint-tells {self.width}")
@@ -114,43 +114,22 @@ class Data:
         return owed
 
 
-@dataclasses.dataclass(frozen=True)
-class Array:
-    """An array of numbers. A struct holds its list mapped by the identity."""
-    element: Number
-    length: int
-
-    denotes = "List ℕ"
-    row = property(lambda self: f"(Array {self.element.name} {self.length})")
-
-    def value(self, term):
-        return f"only (array-vals ({self.element.vals}) {argument(term)})"
-
-    def owned(self, term, known):
-        number = self.element
-        makes = f"array-makes 𝓤 H A W {number.name} (uint-makes 𝓤 H A W {number.width}) {self.length}"
-        return f"owned ! {self.row} (Is {self.row}) ({makes}) {argument(term)} _ {argument(known)}"
-
-    def mapped(self, term):
-        return f"map (λ v. v) {argument(term)}"
-
-    def known(self, owed, term):
-        holds = f"(λ (zs : List ℕ). Is {self.row} zs (array-vals ({self.element.vals}) zs))"
-        return f"subst {holds} (map-id {argument(term)}) ({owed})"
-
-
 def read_type(text):
-    """A type as the inputs have it: `u32`, `[u8; 64]`, `struct rules::BlockSlot`, `enum rules::Outcome`."""
+    """A type as the inputs have it: `u32`, `struct rules::BlockSlot`, `enum rules::Outcome`."""
     if text in WIDTHS:
         return Number(text)
-    if array := re.fullmatch(r"\[(\w+); (\d+)\]", text):
-        return Array(Number(array[1]), int(array[2]))
     kind, path = text.split()
     return {"struct": Data(path, "B", "LL", ""), "enum": Data(path, "E", "EL", "tt ")}[kind]
 
 
+class Borrowed:
+    """What is lent for a lifetime of the signature, of whose token there is a share."""
+    lft = property(lambda self: f"κ{sub(self.lifetime)}")
+    share = property(lambda self: f"q{sub(self.lifetime)}")
+
+
 @dataclasses.dataclass(frozen=True)
-class Slice:
+class Slice(Borrowed):
     """A lent slice: given up to the callee for good if it may be written, copied if not."""
     name: str
     place: int
@@ -180,7 +159,7 @@ class Slice:
         return f"{self.lent} {self.term}" if self.mutable else self.lent
 
     def row_under(self, lifetime):
-        return f"{'Mut' if self.mutable else 'Shr'}Slice (named {lifetime}) κ{sub(self.lifetime)} {self.element}"
+        return f"{'Mut' if self.mutable else 'Shr'}Slice (named {lifetime}) {self.lft} {self.element}"
 
     def owned_under(self, lifetime):
         return f"‵ ({self.row_under(lifetime)} .own {argument(self.now)} ({self.value} ∷ []))"
@@ -219,7 +198,7 @@ class Slice:
 
 
 @dataclasses.dataclass(frozen=True)
-class Lent:
+class Lent(Borrowed):
     """The record, lent by `&mut`; its one field is read before the call and stored after it."""
     name: str
     place: int
@@ -232,7 +211,7 @@ class Lent:
     typed = "(tt, tt)"
     struct = property(lambda self: self.path.split("::")[-1])
     denotes = property(lambda self: f"RefT {self.struct}")
-    row = property(lambda self: f"MutRef (named {self.lifetime}) κ{sub(self.lifetime)} T.the-row")
+    row = property(lambda self: f"MutRef (named {self.lifetime}) {self.lft} T.the-row")
     tells = property(lambda self: f"mut-tells (named {self.lifetime}) (κs{projection(self.lifetime)}) T.the-row")
 
     def binders(self):
@@ -320,7 +299,7 @@ class Held:
 
 
 @dataclasses.dataclass(frozen=True)
-class Rows:
+class Rows(Borrowed):
     """The rows, a slice of records lent by `&mut` that a loop fills."""
     name: str
     place: int
@@ -335,7 +314,7 @@ class Rows:
     plain = "tt (plain (λ _. T.the-row))"
     struct = property(lambda self: self.path.split("::")[-1])
     denotes = property(lambda self: f"RefT (List {self.struct})")
-    row = property(lambda self: f"MutSlice (named {self.lifetime}) κ{sub(self.lifetime)} T.the-row")
+    row = property(lambda self: f"MutSlice (named {self.lifetime}) {self.lft} T.the-row")
     mir = property(lambda self: f"sliceTy (tyRef (named {self.lifetime}) mut (pointee (T.the-row .written)))")
     tells = property(lambda self: f"mut-slice-tells (named {self.lifetime}) (κs{projection(self.lifetime)}) T.the-row")
 
@@ -360,13 +339,48 @@ class Rows:
 
 
 @dataclasses.dataclass(frozen=True)
+class Keys:
+    """A local array of numbers, made of zeros and lent by `&mut` to one call: c is its block, α the lifetime and δ the ghost name of
+    that loan, and zs what it holds afterwards."""
+    name: str
+    element: Number
+    length: int
+
+    lft = "(α ∷ [])"
+    share = "fullShare"
+    denotes = "RefT (List ℕ)"
+    now = "lent c δ"
+    term = "zs"
+    value = "vptr c 0"
+    zeros = property(lambda self: f"(replicate {self.length} 0)")
+    row = property(lambda self: f"(Array {self.element.name} {self.length})")
+    mir = property(lambda self: f"tyArray (tyInt {self.element.width}) {self.length}")
+    made = property(lambda self: f"{self.element.width} {self.length}")
+
+    def owned_under(self, lifetime):
+        return f"‵ (MutRef (named {lifetime}) {self.lft} {self.row} .own ({self.now}) ({self.value} ∷ []))"
+
+    def last(self, term):
+        """That the array holds a list when the loan ends."""
+        return f"fres δ ({self.row} .coded .code {argument(term)})"
+
+    def element_at(self, turn):
+        return f"getD {self.term} {turn} 0"
+
+    def declared(self, lifetime):
+        record = f"record {{ ptr = (c, 0); name = δ; now = {self.zeros} }}"
+        loan = f"{self.owned_under(lifetime)} ⊛ ‵ (flent {self.lft} (Body (mem {self.row}) c 0 δ))"
+        yield ["-- the array, lent", f"abbrev lent : (c : ℕ) (δ : GName) → {self.denotes}", f"lent c δ = {record}"]
+        yield ["abbrev Loan : (c α : ℕ) (δ : GName) → Item 𝓤", f"Loan c α δ = {loan}"]
+
+
+@dataclasses.dataclass(frozen=True)
 class Passed:
-    """A number or an array that a call is given by value: it stands in a local, or in a field of one."""
+    """A number that a call is given by value: it stands in a local."""
     term: str
-    type: object
+    type: Number
     known: str
     local: int
-    field: int = None
 
     now = property(lambda self: self.term)
     denotes = property(lambda self: self.type.denotes)

@@ -64,8 +64,8 @@ class Walk(Uses, Script):
     def exit_names(self):
         types = ["List ℕ" if one in self.written else "Unit {0}" for one in self.arguments]
         left = ["‵ (fobs γ (T.the-row .coded .code (h′ r)))",
-                f"‵ (fbor κ{sub(self.lent.lifetime)} (Body (mem T.the-row) b o γ))",
-                f"‵ (flft κ{sub(self.lent.lifetime)} q{sub(self.lent.lifetime)})",
+                f"‵ (fbor {self.lent.lft} (Body (mem T.the-row) b o γ))",
+                f"‵ (flft {self.lent.lft} {self.lent.share})",
                 f"({self.tokens(self.passed)})",
                 *(f"‵ (finally {one.element} {one.ghost} ({self.at_last(one)}))" for one in self.written),
                 *(one.own for one in self.copied)]

@@ -82,13 +82,13 @@ class Walked:
         return "code.calls-" + callee.replace("_", "-").replace("::", "·")
 
     def lifetimes(self, ones):
-        return nested([f"κ{sub(one.lifetime)}" for one in ones])
+        return nested([one.lft for one in ones])
 
     def shares(self, ones):
-        return nested([f"q{sub(one.lifetime)}" for one in ones])
+        return nested([one.share for one in ones])
 
     def tokens(self, ones):
-        return " ⊛ ".join([f"‵ (flft κ{sub(one.lifetime)} q{sub(one.lifetime)})" for one in ones] + ["‵ ftrue"])
+        return " ⊛ ".join([f"‵ (flft {one.lft} {one.share})" for one in ones] + ["‵ ftrue"])
 
     def at_entry(self):
         return f"(({self.lifetimes(self.borrowed)}, {self.shares(self.borrowed)}, tt, a, vals), tt)"
@@ -128,8 +128,8 @@ class Walked:
         yield f"{name} 𝓤 H A mem run = tripleOf 𝓤 H A {word}.signature ({word}.spec 𝓤 H A mem run)"
 
     def telescope(self):
-        lifetimes = " ".join(f"κ{sub(one.lifetime)}" for one in self.borrowed)
-        shares = " ".join(f"q{sub(one.lifetime)}" for one in self.borrowed)
+        lifetimes = " ".join(one.lft for one in self.borrowed)
+        shares = " ".join(one.share for one in self.borrowed)
         binders = [one.binders() for one in self.parameters]
         bounds = [bound for one in self.parameters if (bound := one.bound())]
         lent = " ".join([f"({lifetimes} : Lft) ({shares} : Share)", *binders, *bounds])
@@ -200,7 +200,7 @@ class Walked:
     def copy(self, steps, one):
         """A slice that is not written is had twice."""
         steps.front(owns(one))
-        copy = f"shr-slice-copy 𝓤 H A W (named {one.lifetime}) κ{sub(one.lifetime)} {one.element} .twice {one.lent} ({one.value} ∷ [])"
+        copy = f"shr-slice-copy 𝓤 H A W (named {one.lifetime}) {one.lft} {one.element} .twice {one.lent} ({one.value} ∷ [])"
         steps.do(f"use1 W ({one.own} ⊛ {one.own}) ({copy})")
         steps.take("split !", 1, copy_of(one), owns(one))
 

@@ -1,6 +1,6 @@
 pub mod Order
 pub mod Shifted
+pub mod Rooms
 pub mod Places
-pub mod Moving
-pub mod Listed
+pub mod Listing
 pub mod Replies

@@ -5,7 +5,7 @@ ghost use lib.ListN.{length};
 ghost use Rattle.rules.specs.Records.{before, after};
 ghost use Rattle.rules.specs.Calls.{stateOf, screen as screenRule};
 ghost use Rattle.call_numbers.specs.Numbers.{Shows};
-ghost use Rattle.screen_call.specs.Laid.{rowsOf};
+ghost use Rattle.screen_call.specs.Keys.{rowsOf};
 ghost use Rattle.station.specs.Rows.{Lists};
 use call_numbers::screened_number;
 use rules::HeadRow;
@@ -13,11 +13,10 @@ use rules::Screened;
 use screen_call::row_at;
 use screen_call::screen;
 
-// The answer, how many records it has, and their heads.
+// The answer, and how many records it has.
 struct Listed {
     answer: u64,
     rows: usize,
-    heads: [u8; 64],
 }
 
 fn rows(screened: Screened) -> usize
@@ -42,15 +41,16 @@ fn list_rows(
     arrivals: &[u64],
     connected: &[u8],
     room: usize,
+    keys: &mut [u64; 64],
 ) -> Listed
-    ensures { λ r. ⌜ ((activeHead : ℕ) → Lists r
+    ensures { λ r. ⌜ ((activeHead : ℕ) → Lists r (now (keys .exit))
         (before hashes parents sequences counts flags tips tails missing requested arrivals connected)
         (after hashes parents sequences counts flags tips tails missing requested arrivals connected) room
         (screenRule
         (stateOf (before hashes parents sequences counts flags tips tails missing requested arrivals connected) activeHead)
         room)) ⌝ }
 {
-    let listed = screen(
+    let screened = screen(
         hashes,
         parents,
         sequences,
@@ -63,13 +63,11 @@ fn list_rows(
         arrivals,
         connected,
         room,
+        keys,
     );
-    let screened = listed.screened;
-    let heads = listed.heads;
     Listed {
         answer: screened_number(screened),
         rows: rows(screened),
-        heads,
     }
 }
 
@@ -96,6 +94,7 @@ pub extern "C" fn station_screen(
         (stateOf (before hashes parents sequences counts flags tips tails missing requested arrivals connected) activeHead)
         (length (now (rows .entry))))) ⌝ }
 {
+    let mut keys = [0u64; 64];
     let listed = list_rows(
         hashes,
         parents,
@@ -109,11 +108,12 @@ pub extern "C" fn station_screen(
         arrivals,
         connected,
         rows.len(),
+        &mut keys,
     );
     let n = listed.rows;
     let mut i = 0;
     while i < n {
-        rows[i] = row_at(sequences, tips, tails, connected, listed.heads, i);
+        rows[i] = row_at(sequences, tips, tails, connected, keys[i]);
         i += 1;
     }
     listed.answer

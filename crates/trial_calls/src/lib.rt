@@ -309,7 +309,8 @@ pub fn tell_screen(
         (stateOf (after hashes parents sequences counts flags tips tails missing requested arrivals connected) (r .active .0))
         (r .renewed) (now (out .exit)) (r .at) ⌝ }
 {
-    let listed = screen(
+    let mut keys = [0u64; 64];
+    let answer = screen(
         hashes,
         parents,
         sequences,
@@ -322,13 +323,12 @@ pub fn tell_screen(
         arrivals,
         connected,
         tips.len(),
+        &mut keys,
     );
-    let answer = listed.screened;
-    let heads = listed.heads;
     Told {
         active,
         renewed: false,
-        at: screen_lines(sequences, tips, tails, connected, heads, answer, out, at),
+        at: screen_lines(sequences, tips, tails, connected, keys, answer, out, at),
     }
 }
 

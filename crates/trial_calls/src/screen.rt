@@ -4,11 +4,12 @@ ghost use mathlib.Core.List.{[]};
 ghost use lib.ListN.{length};
 ghost use lib.Seq.{sets};
 ghost use Rattle.rules.specs.Answers.{screenedSaid};
-ghost use Rattle.screen_call.specs.Laid.{rowsIn, rowsOf};
+ghost use Rattle.screen_call.specs.Keys.{rowsIn, rowsOf};
 ghost use Rattle.trial_lines.specs.Writing.{place, rowsLines};
 ghost use Rattle.trial_lines.specs.Said.{said};
 use query_numbers::refusal_number;
 use rules::Screened;
+use screen_call::key_at;
 use screen_call::row_at;
 use trial_lines::lines::number_line;
 use trial_lines::lines::row_line;
@@ -18,7 +19,7 @@ fn show_rows(
     tips: &[u32],
     tails: &[u32],
     connected: &[u8],
-    heads: [u8; 64],
+    keys: [u64; 64],
     rows: usize,
     out: &mut [u8],
     at: usize,
@@ -26,30 +27,30 @@ fn show_rows(
     ensures { λ r. ⌜ (now (out .exit)
         ≡ sets (now (out .entry)) at
         (rowsLines
-        (rowsIn (now (sequences .entry)) (now (tips .entry)) (now (tails .entry)) (now (connected .entry)) heads rows)))
+        (rowsIn (now (sequences .entry)) (now (tips .entry)) (now (tails .entry)) (now (connected .entry)) keys rows)))
         × (r
         ≡ place (length (now (out .entry))) at
         (length
         (rowsLines
-        (rowsIn (now (sequences .entry)) (now (tips .entry)) (now (tails .entry)) (now (connected .entry)) heads rows)))) ⌝ }
+        (rowsIn (now (sequences .entry)) (now (tips .entry)) (now (tails .entry)) (now (connected .entry)) keys rows)))) ⌝ }
 {
     let mut next = at;
     let mut i = 0;
     while i < rows {
-        let row = row_at(sequences, tips, tails, connected, heads, i);
+        let row = row_at(sequences, tips, tails, connected, key_at(keys, i));
         next = row_line(out, next, row);
         i += 1;
     }
     next
 }
 
-// A `V` line for each record of the screen whose heads are given, or the refusal.
+// A `V` line for each record of the screen whose keys are given, or the refusal.
 pub fn screen_lines(
     sequences: &[u32],
     tips: &[u32],
     tails: &[u32],
     connected: &[u8],
-    heads: [u8; 64],
+    keys: [u64; 64],
     answer: Screened,
     out: &mut [u8],
     at: usize,
@@ -58,14 +59,14 @@ pub fn screen_lines(
         ≡ sets (now (out .entry)) at
         (said []
         (screenedSaid answer
-        (rowsIn (now (sequences .entry)) (now (tips .entry)) (now (tails .entry)) (now (connected .entry)) heads
+        (rowsIn (now (sequences .entry)) (now (tips .entry)) (now (tails .entry)) (now (connected .entry)) keys
         (rowsOf answer)))))
         × (r
         ≡ place (length (now (out .entry))) at
         (length
         (said []
         (screenedSaid answer
-        (rowsIn (now (sequences .entry)) (now (tips .entry)) (now (tails .entry)) (now (connected .entry)) heads
+        (rowsIn (now (sequences .entry)) (now (tips .entry)) (now (tails .entry)) (now (connected .entry)) keys
         (rowsOf answer)))))) ⌝ }
 {
     match answer {
@@ -74,7 +75,7 @@ pub fn screen_lines(
             tips,
             tails,
             connected,
-            heads,
+            keys,
             rows as usize,
             out,
             at,

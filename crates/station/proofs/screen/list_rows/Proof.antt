@@ -14,9 +14,9 @@ rows-requires c κs = tt
 
 returns : tie.Need-returns
 returns c =
-    let listed = let p : tie.After-screen = search in p .screen in
+    let screened = let p : tie.After-screen = search in p .screen in
     let number = let p : tie.After-screened-number = search in p .screened-number in
-    λ active. lists _ _ _ _ _ (listed .ensures active) _ _ (number .ensures) (c .rows .ensures)
+    λ active. lists _ _ _ _ _ _ _ (screened .ensures active) _ _ (number .ensures) (c .rows .ensures)
 
 pub list-rows-spec : {M : Type 1} → statement M
 list-rows-spec = tie.close (tie.spec screen-requires screened-number-requires rows-requires returns)

@@ -4,7 +4,7 @@ use Prim.Native.Nat.{_≤_, _-_}
 use mathlib.Core.Path.{_≡_, ap, _∙_}
 use lib.ListN.{length}
 use lib.Seq.{length-sets}
-use Rattle.screen_call.specs.Laid.{rowsIn}
+use Rattle.screen_call.specs.Keys.{rowsIn}
 use Rattle.trial_lines.specs.Writing.{rowsLines}
 use Rattle.trial_lines.proofs.Places.{Put, the}
 use Rattle.trial_calls.proofs.Rows.{rows-first, rows-turn, rows-all}
@@ -12,14 +12,17 @@ use Rattle.trial_calls.proofs.screen.show_rows.Statement.{statement}
 use Rattle.trial_calls.proofs.screen.show_rows.Tie as tie
 
 abbrev Inv-loop : tie.InvT-loop
-Inv-loop sequences tips tails connected heads rows out₀ at next₀ i₀ out next i =
-    (i ≤ rows) × Put out₀ at (rowsLines (rowsIn sequences tips tails connected heads i)) out next
+Inv-loop sequences tips tails connected keys rows out₀ at next₀ i₀ out next i =
+    (i ≤ rows) × Put out₀ at (rowsLines (rowsIn sequences tips tails connected keys i)) out next
 
 abbrev μ-loop : tie.MeasureT-loop
-μ-loop sequences tips tails connected heads rows out₀ at next₀ i₀ out next i = rows - i
+μ-loop sequences tips tails connected keys rows out₀ at next₀ i₀ out next i = rows - i
 
 loop-holds : tie.Need-loop-holds Inv-loop μ-loop
 loop-holds c = (omega arith, rows-first _ _ _ _ _ _ _)
+
+key-at-requires : tie.Need-key-at-requires Inv-loop μ-loop
+key-at-requires c κs = tt
 
 row-at-requires : tie.Need-row-at-requires Inv-loop μ-loop
 row-at-requires c κs = tt
@@ -36,8 +39,9 @@ loop-less c = omega arith
 loop-again : tie.Need-loop-again Inv-loop μ-loop
 loop-again c = (
   omega arith,
-  rows-turn _ _ _ _ _ _ _ _ _ _ _ _ _
+  rows-turn _ _ _ _ _ _ _ _ _ _ _ _ _ _
       (the (tie.At-loop Inv-loop μ-loop) (search) .loop .inv .1)
+      (the (tie.After-key-at Inv-loop μ-loop) (search) .key-at .ensures)
       (the (tie.After-row-at Inv-loop μ-loop) (search) .row-at .ensures)
       (the (tie.After-row-line Inv-loop μ-loop) (search) .row-line .ensures),
 )
@@ -57,6 +61,7 @@ show-rows-spec =
     Inv-loop
     μ-loop
     loop-holds
+    key-at-requires
     row-at-requires
     row-line-requires
     add-i

@@ -1,7 +1,7 @@
 -- The lines of the records before `i` are written.
 use native.Mathlib.Omega.{arith}
 use Prim.Native.Nat.{_≤_, _-_}
-use mathlib.Core.Path.{_≡_, ap, _∙_}
+use mathlib.Core.Path.{ap, _∙_}
 use lib.ListN.{length}
 use lib.Seq.{length-sets}
 use Rattle.screen_call.specs.Keys.{rowsIn}

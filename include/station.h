@@ -38,9 +38,9 @@ extern "C" {
 #endif
 
 #define STATION_VERSION_MAJOR 0
-#define STATION_VERSION_MINOR 5
+#define STATION_VERSION_MINOR 4
 #define STATION_VERSION_PATCH 0
-#define STATION_VERSION "0.5.0"
+#define STATION_VERSION "0.4.0"
 
 /* Ignoring the answer of such a function warns. */
 #if (defined(__cplusplus) && __cplusplus >= 201703L) || (defined(__STDC_VERSION__) && __STDC_VERSION__ > 201710L)
@@ -98,8 +98,7 @@ enum {
     STATION_REFUSED_HOLDS_ACTIVE = 9,
     STATION_REFUSED_SHORT_LIST = 10,
     STATION_REFUSED_STORE = 100,
-    STATION_REFUSED_RECORD = 101,
-    STATION_REFUSED_MAP = 102
+    STATION_REFUSED_RECORD = 101
 };
 
 /* The refusal, or STATION_DONE. */
@@ -114,13 +113,12 @@ STATION_CHECKED static inline const char *station_refusal_text(uint32_t refusal)
  *
  * All that must outlast the station stands in its store:
  *
- *     hashes, parents, sequences, flags, map   of the blocks, together and as one call left them
- *     held                                     the record, which names the active head
- *     mark                                     by which the store is known
+ *     hashes, parents, sequences, flags   of the blocks, together and as one call left them
+ *     held                                the record, which names the active head
+ *     mark                                by which the store is known
  *
  * The counts of blocks, and all that is kept of the heads, may come back as anything: restart works them out. An empty
- * slot must come back empty, with its count 0, and the map true, that is, with the bits of the occupied slots set and all
- * others zero: restart does not mend a false map. One write saves it all, and fresh leaves no byte of it undefined:
+ * slot must come back empty, with its count 0. One write saves it all, and fresh leaves no byte of it undefined:
  *
  *     fwrite(&store, sizeof store, 1, file)
  *
@@ -131,13 +129,9 @@ STATION_CHECKED static inline const char *station_refusal_text(uint32_t refusal)
  *
  * When the station comes up again, read the file into a store of the same n and m, lend that, and call restart before all
  * else. A store of zeros is not a fresh one. Restart refuses a store that fresh did not begin, or of another layout, n or m
- * (STATION_REFUSED_STORE), a record that is not the last block of the active chain (STATION_REFUSED_RECORD), and a false map
- * (STATION_REFUSED_MAP). It believes the rest: that parents are there and one lower in sequence, that the active blocks are
- * one line, and that no two blocks have the same sequence and hash. Calls from fresh tables on leave nothing else.
- *
- * A store of layout 1, which this header had up to version 0.4, has all of this but the map. To take one over, call fresh
- * on a new store, copy the other fields of the blocks and the record into it, set the bit of each slot whose sequence is
- * not STATION_NONE_REF, and call restart.
+ * (STATION_REFUSED_STORE), and a record that is not the last block of the active chain (STATION_REFUSED_RECORD). It
+ * believes the rest: that parents are there and one lower in sequence, that the active blocks are one line, and that no two
+ * blocks have the same sequence and hash. Calls from fresh tables on leave nothing else.
  */
 
 /* The record: the slot of the active head, or STATION_NONE_REF. Only fresh and promote write it. */
@@ -146,16 +140,13 @@ struct station_active_head {
 };
 
 /* The number of the store's layout, and the bytes of its mark, which fill the store up to a multiple of 8. */
-#define STATION_LAYOUT 2
+#define STATION_LAYOUT 1
 #define STATION_MARK_BYTES(n, m) (16 + (12 - (2 * (n) + (m)) % 8) % 8)
-
-/* How many words the map has. */
-#define STATION_MAP_WORDS(n) (((n) + 63) / 64)
 
 /* Memory for tables of n block slots and m head slots, without padding. */
 #define STATION_STORE(n, m)                                                                                            \
     struct {                                                                                                           \
-        uint64_t map[STATION_MAP_WORDS(n)], requested[m], arrivals[m];                                                 \
+        uint64_t requested[m], arrivals[m];                                                                            \
         uint32_t parents[n], sequences[n], tips[m], tails[m];                                                          \
         struct station_active_head held;                                                                               \
         uint8_t hashes[STATION_HASH_BYTES * (n)], missing[STATION_HASH_BYTES * (m)];                                   \
@@ -166,7 +157,7 @@ struct station_active_head {
 #define STATION_LEND(store)                                                                                            \
     {                                                                                                                  \
         sizeof (store).counts, sizeof (store).connected,                                                               \
-        (store).hashes, (store).parents, (store).sequences, (store).counts, (store).flags, (store).map,                \
+        (store).hashes, (store).parents, (store).sequences, (store).counts, (store).flags,                             \
         (store).tips, (store).tails, (store).missing, (store).requested, (store).arrivals, (store).connected,          \
         &(store).held, (store).mark                                                                                    \
     }
@@ -185,9 +176,6 @@ struct station_tables {
     uint32_t *sequences; /* STATION_NONE_REF in an empty slot */
     uint8_t *counts;     /* the children that keep the block, 1 for a tip */
     uint8_t *flags;      /* bit 0: on the active chain; bits 1 and 2: the status, 3 reads as Stored */
-
-    /* Of all block slots: slot s is occupied where bit s % 64 of word s / 64 is set; STATION_MAP_WORDS(blocks) words. */
-    uint64_t *map;
 
     /* Of a head slot each. */
     uint32_t *tips;      /* the block slot of the head, or STATION_NONE_REF in an empty one */
@@ -211,9 +199,8 @@ STATION_CHECKED static inline struct station_answer station_tables_fresh(struct 
 
 /*
  * Stores an arriving block, whose parent has the hash `previous` and need not be there, and answers with its slot, the
- * lowest free one by the map. It gets or moves a head, a full head table evicts one, and blocks that waited for it are
- * linked. Refuses 1, 4, 5, 6 and 7. With a true map 7 says that no slot is empty; with a false one (station_map_is_true
- * tells) also that no bit is zero, or that the first that is stands for no empty slot.
+ * lowest empty one. It gets or moves a head, a full head table evicts one, and blocks that waited for it are linked.
+ * Refuses 1, 4, 5, 6 and 7.
  */
 STATION_CHECKED static inline struct station_answer station_tables_admit(
     struct station_tables *t, uint32_t sequence, const uint8_t hash[STATION_AT_LEAST STATION_HASH_BYTES],
@@ -238,12 +225,6 @@ STATION_CHECKED static inline struct station_answer station_tables_remove(struct
  */
 STATION_CHECKED static inline struct station_answer station_tables_under(
     const struct station_tables *t, uint32_t slot, uint32_t *highest);
-
-/*
- * Answers with how many block slots are occupied: the ones of the map, also those that a false map has past the last slot.
- * The tables stay as they are. Refuses 1.
- */
-STATION_CHECKED static inline struct station_answer station_tables_occupied_total(const struct station_tables *t);
 
 /* A record of the head screen: what a head keeps, and the sequence of its tip. */
 struct station_head_row {
@@ -296,7 +277,7 @@ STATION_CHECKED static inline struct station_answer station_tables_earliest_dead
 
 /*
  * After a restart of the station: sets the counts from the blocks alone and then makes the heads anew, which take the
- * time as their arrival and have no request and no missing hash noted. Refuses 1, and before that 100, 101 and 102.
+ * time as their arrival and have no request and no missing hash noted. Refuses 1, and before that 100 and 101.
  */
 STATION_CHECKED static inline struct station_answer station_tables_restart(struct station_tables *t, uint64_t now);
 
@@ -353,7 +334,7 @@ STATION_CHECKED static inline uint32_t station_tables_find(
 STATION_CHECKED static inline uint32_t station_tables_find_parent(
     const struct station_tables *t, uint32_t sequence, const uint8_t previous[STATION_AT_LEAST STATION_HASH_BYTES]);
 
-/* The lowest free slot by the map, which admit would take: that of its first zero bit, or none where that is no empty one. */
+/* The lowest empty slot. */
 STATION_CHECKED static inline uint32_t station_tables_next_free_index(const struct station_tables *t);
 
 /* The count of the block in this slot. */
@@ -402,8 +383,7 @@ STATION_CHECKED static inline bool station_rank_outranks(
 
 STATION_CHECKED uint64_t station_fresh(
     uint8_t *hashes, size_t hashes_len, uint32_t *parents, size_t parents_len,
-    uint32_t *sequences, size_t sequences_len, uint8_t *counts, size_t counts_len,
-    uint8_t *flags, size_t flags_len, uint64_t *map, size_t map_len,
+    uint32_t *sequences, size_t sequences_len, uint8_t *counts, size_t counts_len, uint8_t *flags, size_t flags_len,
     uint32_t *tips, size_t tips_len, uint32_t *tails, size_t tails_len, uint8_t *missing, size_t missing_len,
     uint64_t *requested, size_t requested_len, uint64_t *arrivals, size_t arrivals_len,
     uint8_t *connected, size_t connected_len,
@@ -412,8 +392,7 @@ STATION_CHECKED uint64_t station_fresh(
 /* `active` is the record's slot. Refuses 1, 2, 4, 5, 6 and 7. */
 STATION_CHECKED uint64_t station_admit(
     uint8_t *hashes, size_t hashes_len, uint32_t *parents, size_t parents_len,
-    uint32_t *sequences, size_t sequences_len, uint8_t *counts, size_t counts_len,
-    uint8_t *flags, size_t flags_len, uint64_t *map, size_t map_len,
+    uint32_t *sequences, size_t sequences_len, uint8_t *counts, size_t counts_len, uint8_t *flags, size_t flags_len,
     uint32_t *tips, size_t tips_len, uint32_t *tails, size_t tails_len, uint8_t *missing, size_t missing_len,
     uint64_t *requested, size_t requested_len, uint64_t *arrivals, size_t arrivals_len,
     uint8_t *connected, size_t connected_len,
@@ -423,7 +402,7 @@ STATION_CHECKED uint64_t station_admit(
 STATION_CHECKED uint64_t station_promote(
     const uint8_t *hashes, size_t hashes_len, const uint32_t *parents, size_t parents_len,
     const uint32_t *sequences, size_t sequences_len, const uint8_t *counts, size_t counts_len,
-    uint8_t *flags, size_t flags_len, const uint64_t *map, size_t map_len,
+    uint8_t *flags, size_t flags_len,
     const uint32_t *tips, size_t tips_len, uint32_t *tails, size_t tails_len, uint8_t *missing, size_t missing_len,
     uint64_t *requested, size_t requested_len, const uint64_t *arrivals, size_t arrivals_len,
     uint8_t *connected, size_t connected_len,
@@ -431,8 +410,7 @@ STATION_CHECKED uint64_t station_promote(
 
 STATION_CHECKED uint64_t station_remove(
     uint8_t *hashes, size_t hashes_len, uint32_t *parents, size_t parents_len,
-    uint32_t *sequences, size_t sequences_len, uint8_t *counts, size_t counts_len,
-    uint8_t *flags, size_t flags_len, uint64_t *map, size_t map_len,
+    uint32_t *sequences, size_t sequences_len, uint8_t *counts, size_t counts_len, uint8_t *flags, size_t flags_len,
     uint32_t *tips, size_t tips_len, uint32_t *tails, size_t tails_len, uint8_t *missing, size_t missing_len,
     uint64_t *requested, size_t requested_len, uint64_t *arrivals, size_t arrivals_len,
     uint8_t *connected, size_t connected_len,
@@ -442,24 +420,16 @@ STATION_CHECKED uint64_t station_remove(
 STATION_CHECKED uint64_t station_under(
     const uint8_t *hashes, size_t hashes_len, const uint32_t *parents, size_t parents_len,
     const uint32_t *sequences, size_t sequences_len, const uint8_t *counts, size_t counts_len,
-    const uint8_t *flags, size_t flags_len, const uint64_t *map, size_t map_len,
+    const uint8_t *flags, size_t flags_len,
     const uint32_t *tips, size_t tips_len, const uint32_t *tails, size_t tails_len,
     const uint8_t *missing, size_t missing_len, const uint64_t *requested, size_t requested_len,
     const uint64_t *arrivals, size_t arrivals_len, const uint8_t *connected, size_t connected_len,
     uint32_t slot, uint32_t *highest, size_t highest_len);
 
-STATION_CHECKED uint64_t station_occupied_total(
-    const uint8_t *hashes, size_t hashes_len, const uint32_t *parents, size_t parents_len,
-    const uint32_t *sequences, size_t sequences_len, const uint8_t *counts, size_t counts_len,
-    const uint8_t *flags, size_t flags_len, const uint64_t *map, size_t map_len,
-    const uint32_t *tips, size_t tips_len, const uint32_t *tails, size_t tails_len,
-    const uint8_t *missing, size_t missing_len, const uint64_t *requested, size_t requested_len,
-    const uint64_t *arrivals, size_t arrivals_len, const uint8_t *connected, size_t connected_len);
-
 STATION_CHECKED uint64_t station_screen(
     const uint8_t *hashes, size_t hashes_len, const uint32_t *parents, size_t parents_len,
     const uint32_t *sequences, size_t sequences_len, const uint8_t *counts, size_t counts_len,
-    const uint8_t *flags, size_t flags_len, const uint64_t *map, size_t map_len,
+    const uint8_t *flags, size_t flags_len,
     const uint32_t *tips, size_t tips_len, const uint32_t *tails, size_t tails_len,
     const uint8_t *missing, size_t missing_len, const uint64_t *requested, size_t requested_len,
     const uint64_t *arrivals, size_t arrivals_len, const uint8_t *connected, size_t connected_len,
@@ -472,7 +442,7 @@ STATION_CHECKED uint64_t station_screen(
 STATION_CHECKED uint64_t station_timer(
     const uint8_t *hashes, size_t hashes_len, const uint32_t *parents, size_t parents_len,
     const uint32_t *sequences, size_t sequences_len, const uint8_t *counts, size_t counts_len,
-    const uint8_t *flags, size_t flags_len, const uint64_t *map, size_t map_len,
+    const uint8_t *flags, size_t flags_len,
     const uint32_t *tips, size_t tips_len, const uint32_t *tails, size_t tails_len,
     const uint8_t *missing, size_t missing_len, uint64_t *requested, size_t requested_len,
     const uint64_t *arrivals, size_t arrivals_len, const uint8_t *connected, size_t connected_len,
@@ -483,17 +453,16 @@ STATION_CHECKED uint64_t station_timer(
 STATION_CHECKED uint64_t station_earliest_deadline(
     const uint8_t *hashes, size_t hashes_len, const uint32_t *parents, size_t parents_len,
     const uint32_t *sequences, size_t sequences_len, const uint8_t *counts, size_t counts_len,
-    const uint8_t *flags, size_t flags_len, const uint64_t *map, size_t map_len,
+    const uint8_t *flags, size_t flags_len,
     const uint32_t *tips, size_t tips_len, const uint32_t *tails, size_t tails_len,
     const uint8_t *missing, size_t missing_len, const uint64_t *requested, size_t requested_len,
     const uint64_t *arrivals, size_t arrivals_len, const uint8_t *connected, size_t connected_len,
     uint32_t given, uint64_t span, uint64_t *time, size_t time_len);
 
-/* `active` is the record's slot. Refuses 1 alone: mark and record are not looked at, nor whether the map is true. */
+/* `active` is the record's slot. Refuses 1 alone: mark and record are not looked at. */
 STATION_CHECKED uint64_t station_restart(
     uint8_t *hashes, size_t hashes_len, uint32_t *parents, size_t parents_len,
-    uint32_t *sequences, size_t sequences_len, uint8_t *counts, size_t counts_len,
-    uint8_t *flags, size_t flags_len, uint64_t *map, size_t map_len,
+    uint32_t *sequences, size_t sequences_len, uint8_t *counts, size_t counts_len, uint8_t *flags, size_t flags_len,
     uint32_t *tips, size_t tips_len, uint32_t *tails, size_t tails_len, uint8_t *missing, size_t missing_len,
     uint64_t *requested, size_t requested_len, uint64_t *arrivals, size_t arrivals_len,
     uint8_t *connected, size_t connected_len,
@@ -509,8 +478,7 @@ STATION_CHECKED uint32_t station_find(
     const uint8_t *hashes, size_t hashes_len, const uint32_t *sequences, size_t sequences_len,
     uint32_t sequence, const uint8_t *hash, size_t hash_len);
 
-STATION_CHECKED uint32_t station_next_free_index(
-    const uint32_t *sequences, size_t sequences_len, const uint64_t *map, size_t map_len);
+STATION_CHECKED uint32_t station_next_free_index(const uint32_t *sequences, size_t sequences_len);
 
 STATION_CHECKED uint32_t station_find_parent(
     const uint8_t *hashes, size_t hashes_len, const uint32_t *sequences, size_t sequences_len,
@@ -555,14 +523,13 @@ STATION_CHECKED uint32_t station_outranks(
 
 /* ==== Part 3: the bodies of part 1 ==== */
 
-/* The arguments of an entry point that takes the buffers of single blocks, or all twelve. */
+/* The arguments of an entry point that takes the buffers of the blocks, or all eleven. */
 #define STATION_BLOCKS(t)                                                                                              \
     (t)->hashes, STATION_HASH_BYTES * (t)->blocks, (t)->parents, (t)->blocks, (t)->sequences, (t)->blocks,             \
         (t)->counts, (t)->blocks, (t)->flags, (t)->blocks
 #define STATION_BUFFERS(t)                                                                                             \
-    STATION_BLOCKS(t), (t)->map, STATION_MAP_WORDS((t)->blocks), (t)->tips, (t)->heads, (t)->tails, (t)->heads,        \
-        (t)->missing, STATION_HASH_BYTES * (t)->heads, (t)->requested, (t)->heads, (t)->arrivals, (t)->heads,          \
-        (t)->connected, (t)->heads
+    STATION_BLOCKS(t), (t)->tips, (t)->heads, (t)->tails, (t)->heads, (t)->missing, STATION_HASH_BYTES * (t)->heads,   \
+        (t)->requested, (t)->heads, (t)->arrivals, (t)->heads, (t)->connected, (t)->heads
 
 static inline struct station_answer station_answered(uint64_t number)
 {
@@ -603,7 +570,7 @@ static inline const char *station_refusal_text(uint32_t refusal)
     case STATION_REFUSED_KNOWN:
         return "a block with this sequence and hash is already there";
     case STATION_REFUSED_FULL:
-        return "no block slot is free";
+        return "no block slot is empty";
     case STATION_REFUSED_NOT_NEXT:
         return "the block's parent is not the active head";
     case STATION_REFUSED_HOLDS_ACTIVE:
@@ -614,8 +581,6 @@ static inline const char *station_refusal_text(uint32_t refusal)
         return "what was loaded is no store of this layout and of this many slots";
     case STATION_REFUSED_RECORD:
         return "the record is not the last block of the active chain";
-    case STATION_REFUSED_MAP:
-        return "the map's bits are not those of the occupied slots";
     default:
         return "not a refusal";
     }
@@ -648,17 +613,6 @@ static inline bool station_record_fits(const struct station_tables *t)
         if ((t->flags[i] & 1) == 1 && (held == STATION_NONE_REF || t->parents[i] == held))
             return false;
     return held == STATION_NONE_REF || (held < t->blocks && (t->flags[held] & 1) == 1);
-}
-
-/* Whether each bit of the map is 1 exactly where it is that of an occupied slot. */
-static inline bool station_map_is_true(const struct station_tables *t)
-{
-    for (size_t i = 0; i < 64 * STATION_MAP_WORDS(t->blocks); i++) {
-        bool is_occupied = i < t->blocks && t->sequences[i] != STATION_NONE_REF;
-        if ((t->map[i / 64] >> i % 64 & 1) != is_occupied)
-            return false;
-    }
-    return true;
 }
 
 static inline struct station_answer station_tables_fresh(struct station_tables *t)
@@ -700,11 +654,6 @@ static inline struct station_answer station_tables_under(
         STATION_BUFFERS(t), slot, highest != NULL ? highest : &none, highest != NULL ? 1 : 0));
 }
 
-static inline struct station_answer station_tables_occupied_total(const struct station_tables *t)
-{
-    return station_answered(station_occupied_total(STATION_BUFFERS(t)));
-}
-
 static inline struct station_answer station_tables_screen(
     const struct station_tables *t, struct station_head_row *rows, size_t room)
 {
@@ -733,8 +682,6 @@ static inline struct station_answer station_tables_restart(struct station_tables
         return station_refused(STATION_REFUSED_STORE);
     if (!station_record_fits(t))
         return station_refused(STATION_REFUSED_RECORD);
-    if (!station_map_is_true(t))
-        return station_refused(STATION_REFUSED_MAP);
     return station_answered(station_restart(STATION_BUFFERS(t), t->held->slot, now));
 }
 
@@ -784,7 +731,7 @@ static inline uint32_t station_tables_find_parent(
 
 static inline uint32_t station_tables_next_free_index(const struct station_tables *t)
 {
-    return station_next_free_index(t->sequences, t->blocks, t->map, STATION_MAP_WORDS(t->blocks));
+    return station_next_free_index(t->sequences, t->blocks);
 }
 
 static inline uint32_t station_tables_head_ref_count(const struct station_tables *t, uint32_t slot)

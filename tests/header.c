@@ -35,7 +35,6 @@ static void lend(struct station_tables *t, size_t n, size_t m)
     t->sequences = (uint32_t *)bytes(sizeof *t->sequences * n);
     t->counts = (uint8_t *)bytes(n);
     t->flags = (uint8_t *)bytes(n);
-    t->map = (uint64_t *)bytes(sizeof *t->map * STATION_MAP_WORDS(n));
     t->tips = (uint32_t *)bytes(sizeof *t->tips * m);
     t->tails = (uint32_t *)bytes(sizeof *t->tails * m);
     t->missing = (uint8_t *)bytes(STATION_HASH_BYTES * m);
@@ -48,7 +47,7 @@ static void lend(struct station_tables *t, size_t n, size_t m)
 
 static void give_back(struct station_tables *t)
 {
-    void *buffers[] = { t->hashes, t->parents, t->sequences, t->counts, t->flags, t->map, t->tips, t->tails,
+    void *buffers[] = { t->hashes, t->parents, t->sequences, t->counts, t->flags, t->tips, t->tails,
                         t->missing, t->requested, t->arrivals, t->connected, t->held, t->mark };
     for (size_t i = 0; i < sizeof buffers / sizeof *buffers; i++)
         free(buffers[i]);
@@ -176,41 +175,6 @@ static void under(void)
     free(highest);
 }
 
-/* The total of these words of a map, by the entry point itself. */
-static struct station_answer total_of(const uint64_t *map, size_t words)
-{
-    const struct station_tables *t = &tables;
-    return station_answered(station_occupied_total(
-        STATION_BLOCKS(t), map, words, t->tips, t->heads, t->tails, t->heads, t->missing, STATION_HASH_BYTES * t->heads,
-        t->requested, t->heads, t->arrivals, t->heads, t->connected, t->heads));
-}
-
-static void occupied_total(void)
-{
-    const uint64_t map[] = { 13, 0 };
-    assert(gives(station_tables_occupied_total(&tables), 3));
-    assert(gives(total_of(map, 1), 3));
-    assert(refuses(total_of(map, 0), STATION_REFUSED_SHAPE));
-    assert(refuses(total_of(map, 2), STATION_REFUSED_SHAPE));
-}
-
-/* Slot 1 is empty, but the first zero bit is that of an occupied slot, then the first past the last slot, and then there is none. */
-static void false_maps(void)
-{
-    const uint64_t maps[] = { 12, 15, UINT64_MAX };
-    const uint32_t totals[] = { 2, 4, 64 };
-    const uint64_t whole = tables.map[0];
-    for (size_t i = 0; i < sizeof maps / sizeof *maps; i++) {
-        tables.map[0] = maps[i];
-        assert(gives(station_tables_occupied_total(&tables), totals[i]));
-        assert(station_tables_next_free_index(&tables) == STATION_NONE_REF);
-        assert(refuses(admit(9, 0x0f, 0x10, 21), STATION_REFUSED_FULL));
-        assert(refuses(station_tables_restart(&tables, 22), STATION_REFUSED_MAP));
-        assert(tables.map[0] == maps[i]);
-    }
-    tables.map[0] = whole;
-}
-
 static bool is_row(const struct station_head_row *row, uint32_t tip, uint32_t sequence, uint32_t kind, uint32_t anchor)
 {
     return row->tip == tip && row->sequence == sequence && row->kind == kind && row->anchor == anchor;
@@ -278,7 +242,6 @@ static void refusals(void)
     lend(&too_large, STATION_MOST_BLOCKS + 1, STATION_MOST_HEADS);
     assert(refuses(station_tables_fresh(&too_large), STATION_REFUSED_SHAPE));
     assert(refuses(station_tables_under(&too_large, STATION_NONE_REF, NULL), STATION_REFUSED_SHAPE));
-    assert(refuses(station_tables_occupied_total(&too_large), STATION_REFUSED_SHAPE));
     assert(refuses(station_tables_screen(&too_large, NULL, 0), STATION_REFUSED_SHAPE));
     give_back(&too_large);
 }
@@ -298,8 +261,6 @@ int main(void)
     trial();
     questions();
     under();
-    occupied_total();
-    false_maps();
     screen();
     timers();
     refusals();

@@ -18,7 +18,7 @@ typedef STATION_STORE(BLOCKS + 1, HEADS) larger_store;
 #define IS_FULL(n, m)                                                                                                  \
     do {                                                                                                               \
         typedef STATION_STORE(n, m) full;                                                                              \
-        assert(sizeof(full) == 42 * (n) + ((n) + 63) / 64 * 8 + 57 * (m) + 4 + STATION_MARK_BYTES(n, m));              \
+        assert(sizeof(full) == 42 * (n) + 57 * (m) + 4 + STATION_MARK_BYTES(n, m));                                    \
     } while (0)
 
 static void no_padding(void)
@@ -31,9 +31,6 @@ static void no_padding(void)
     IS_FULL(2, 5);
     IS_FULL(2, 6);
     IS_FULL(2, 7);
-    IS_FULL(63, 2);
-    IS_FULL(64, 2);
-    IS_FULL(65, 3);
     IS_FULL(STATION_MOST_BLOCKS, STATION_MOST_HEADS);
 }
 
@@ -176,36 +173,6 @@ static void a_lost_record_is_refused(void)
     free(store);
 }
 
-/* Each bit another: of an occupied slot, of an empty one, and past the last. */
-static void a_false_map_is_refused(const desk_store *store)
-{
-    for (unsigned bit = 0; bit < 64; bit++) {
-        desk_store *other = saved_and_loaded(store);
-        other->map[0] ^= UINT64_C(1) << bit;
-        assert(refusal_of(other) == STATION_REFUSED_MAP);
-        free(other);
-    }
-}
-
-/* A store that has no map yet: its blocks and its record in a fresh one, and a bit for each block. */
-static void a_map_can_be_made(const desk_store *store)
-{
-    desk_store *other = new_store();
-    struct station_tables tables = STATION_LEND(*other);
-    assert(done(station_tables_fresh(&tables)));
-    memcpy(other->hashes, store->hashes, sizeof other->hashes);
-    memcpy(other->parents, store->parents, sizeof other->parents);
-    memcpy(other->sequences, store->sequences, sizeof other->sequences);
-    memcpy(other->flags, store->flags, sizeof other->flags);
-    other->held = store->held;
-    for (unsigned slot = 0; slot < BLOCKS; slot++)
-        if (other->sequences[slot] != STATION_NONE_REF)
-            other->map[slot / 64] |= UINT64_C(1) << slot % 64;
-    assert(done(station_tables_restart(&tables, 10)));
-    assert(other->map[0] == store->map[0]);
-    free(other);
-}
-
 int main(void)
 {
     no_padding();
@@ -219,8 +186,6 @@ int main(void)
     another_size_is_refused();
     another_record_is_refused(store);
     a_lost_record_is_refused();
-    a_false_map_is_refused(store);
-    a_map_can_be_made(store);
     free(store);
     return 0;
 }

@@ -55,7 +55,6 @@ pub trait Side {
     fn under(&mut self, slot: u32) -> Result<Under, Refusal>;
     /// Fills the side's list, which has a record for each head slot.
     fn screen(&mut self) -> Result<u32, Refusal>;
-    fn occupied_total(&mut self) -> Result<u32, Refusal>;
 
     /// Takes the tables and the record of the other.
     fn restore(&mut self, from: &Self);
@@ -134,13 +133,12 @@ pub enum List {
     Restart(Vec<u64>),
     Under(Vec<u32>),
     Screen(usize),
-    OccupiedTotal(usize),
 }
 
 impl List {
     pub fn len(&self) -> usize {
         match self {
-            List::Fresh(times) | List::Screen(times) | List::OccupiedTotal(times) => *times,
+            List::Fresh(times) | List::Screen(times) => *times,
             List::Admit(calls) => calls.len(),
             List::Promote(slots) | List::Remove(slots) | List::Under(slots) => slots.len(),
             List::Timer(calls) => calls.len(),
@@ -170,9 +168,6 @@ impl List {
             }
             List::Under(calls) => calls.iter().for_each(|c| taker.take(side.under(black_box(*c)))),
             List::Screen(times) => (0..*times).for_each(|_| taker.take(side.screen())),
-            List::OccupiedTotal(times) => {
-                (0..*times).for_each(|_| taker.take(side.occupied_total()))
-            }
         }
     }
 

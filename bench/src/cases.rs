@@ -17,7 +17,7 @@ pub struct Kind {
     pub at: fn(usize, usize) -> Option<Case>,
 }
 
-pub const KINDS: [Kind; 22] = [
+pub const KINDS: [Kind; 21] = [
     Kind { name: "admit: extend", at: extend },
     Kind { name: "admit: fork", at: fork },
     Kind { name: "admit: full heads, one evicted", at: evict },
@@ -34,7 +34,6 @@ pub const KINDS: [Kind; 22] = [
     Kind { name: "under: leaf", at: under_leaf },
     Kind { name: "screen", at: screen },
     Kind { name: "screen, heads in no order", at: scattered_screen },
-    Kind { name: "occupied total", at: occupied_total },
     Kind { name: "timer", at: timer },
     Kind { name: "deadline", at: deadline },
     Kind { name: "restart", at: restart },
@@ -194,11 +193,6 @@ fn screen(n: usize, m: usize) -> Option<Case> {
 
 fn scattered_screen(n: usize, m: usize) -> Option<Case> {
     case(&Shape::scattered(n, m), List::Screen(64))
-}
-
-/// The tables that are extended: their last slots are free.
-pub fn occupied_total(n: usize, m: usize) -> Option<Case> {
-    case(&Shape::long(n - some(n), m), List::OccupiedTotal(256))
 }
 
 /// So many timer calls, each of which has a head to ask for.

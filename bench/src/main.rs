@@ -3,7 +3,6 @@
 mod calls;
 mod cases;
 mod measure;
-mod occupied;
 mod plan;
 mod port;
 mod report;
@@ -19,7 +18,7 @@ mod under;
 
 use cases::Kind;
 use plan::Plan;
-use report::{Bytes, Depths, Line};
+use report::{Depths, Line};
 use sizes::{SIZES, Size, Who};
 use stand_ins::{api, staged_validation};
 use std::{env, process};
@@ -69,10 +68,9 @@ fn compare(plan: &Plan) {
     println!("The least time at m = 16 as a multiple of that at a quarter of the block slots.\n");
     report::growth(&lines, 16);
     under_a_block(plan);
-    occupied_total(plan);
     println!("\n### Memory\n");
-    let (block, head) = (blocks::timed::BLOCK_BYTES, chain_heads::timed::HEAD_BYTES);
-    report::memory(Bytes { block, map: 0, head }, port::BYTES);
+    let rust = (blocks::timed::BLOCK_BYTES, chain_heads::timed::HEAD_BYTES);
+    report::memory(rust, (port::BLOCK_BYTES, port::HEAD_BYTES));
     println!("\n### Stack\n");
     println!("Bytes of the deepest call, its arguments and return address among them.\n");
     report::stacks(&stacks(plan));
@@ -95,22 +93,6 @@ fn under_a_block(plan: &Plan) {
     report::beside_marking(&sizes, &kinds.iter().filter_map(beside).collect::<Vec<_>>());
     println!("\nNanoseconds a visit.\n");
     report::visits(&sizes.iter().filter_map(visits).collect::<Vec<_>>());
-}
-
-/// The occupied total on the port alone, at each n.
-fn occupied_total(plan: &Plan) {
-    let sizes: Vec<&Size> = plan.sizes().filter(|size| size.m == HEADS).collect();
-    if sizes.is_empty() || !plan.kinds().any(asks_total) {
-        return;
-    }
-    let totals = |size: &&Size| occupied::beside_counting(size.n, plan.effort);
-    println!("\n### The occupied total\n");
-    println!("A count of the lent sequences and the call, nanoseconds a call, m = {HEADS}.\n");
-    report::beside_counting(&sizes.iter().filter_map(totals).collect::<Vec<_>>());
-}
-
-fn asks_total(kind: &'static Kind) -> bool {
-    kind.name == "occupied total"
 }
 
 fn asks_under(kind: &&'static Kind) -> bool {

@@ -2,7 +2,6 @@
 
 use crate::calls::{List, Side, Unread};
 use crate::cases::Case;
-use crate::stats::Spread;
 use std::time::{Duration, Instant};
 
 /// How long a case may be measured, and how often at most.
@@ -101,20 +100,6 @@ pub fn in_turn(
         }
     }
     times
-}
-
-/// Nanoseconds of two in turn, and the second as a multiple of the first.
-pub struct Two {
-    pub first: Spread,
-    pub second: Spread,
-    pub ratio: Spread,
-}
-
-impl Two {
-    pub fn of((first, second): (Vec<f64>, Vec<f64>)) -> Two {
-        let ratio = second.iter().zip(&first).map(|(second, first)| second / first).collect();
-        Two { first: Spread::of(first), second: Spread::of(second), ratio: Spread::of(ratio) }
-    }
 }
 
 /// Turns that do not count.

@@ -1,11 +1,11 @@
 //! The port's side: the crate that a station links.
 
 use crate::calls::{Asked, Block, Refusal, Row, Side, Under};
-use crate::report::Bytes;
 use station::{BlockSlot, HeadKind, HeadRow, NONE_REF, Parts, Sequence, Tables};
 
-/// The bytes of the lent buffers.
-pub const BYTES: Bytes = Bytes { block: 32 + 4 + 4 + 1 + 1, map: 8, head: 4 + 4 + 32 + 8 + 8 + 1 };
+/// Bytes of the lent buffers for a block slot, and for a head slot.
+pub const BLOCK_BYTES: usize = 32 + 4 + 4 + 1 + 1;
+pub const HEAD_BYTES: usize = 4 + 4 + 32 + 8 + 8 + 1;
 
 pub struct Port {
     tables: Tables,
@@ -83,11 +83,6 @@ impl Side for Port {
     #[inline(never)]
     fn screen(&mut self) -> Result<u32, Refusal> {
         self.tables.fill_screen(&mut self.rows).map(|shown| shown as u32).map_err(number)
-    }
-
-    #[inline(never)]
-    fn occupied_total(&mut self) -> Result<u32, Refusal> {
-        self.tables.occupied_total().map(|total| total as u32).map_err(number)
     }
 
     fn restore(&mut self, from: &Self) {

@@ -1,10 +1,8 @@
 //! The results as Markdown tables.
 
-use crate::measure::Two;
-use crate::occupied::Totals;
 use crate::sizes::{Outcome, Size};
 use crate::stats::Spread;
-use crate::under::Visits;
+use crate::under::{Two, Visits};
 
 /// What was measured of one case at one size.
 pub struct Line<'a> {
@@ -19,13 +17,6 @@ pub struct Depths {
     pub name: &'static str,
     pub rust: Option<[usize; 2]>,
     pub port: [usize; 2],
-}
-
-/// The bytes of a side's tables: a block slot, the map of 64 block slots, and a head slot.
-pub struct Bytes {
-    pub block: usize,
-    pub map: usize,
-    pub head: usize,
 }
 
 fn names<'a>(lines: &'a [Line]) -> Vec<&'a str> {
@@ -131,12 +122,11 @@ pub fn slower(lines: &[Line]) {
     }
 }
 
-pub fn memory(rust: Bytes, port: Bytes) {
+pub fn memory(rust: (usize, usize), port: (usize, usize)) {
     heading(&["bytes of tables", "Rust", "port"].map(String::from));
-    println!("| a block slot | {} | {} |", rust.block, port.block);
-    println!("| the map of 64 block slots | {} | {} |", rust.map, port.map);
-    println!("| a head slot | {} | {} |", rust.head, port.head);
-    let all = |of: Bytes| 1024 * of.block + 1024 / 64 * of.map + 64 * of.head;
+    println!("| a block slot | {} | {} |", rust.0, port.0);
+    println!("| a head slot | {} | {} |", rust.1, port.1);
+    let all = |of: (usize, usize)| 1024 * of.0 + 64 * of.1;
     println!("| n = 1024, m = 64 | {} | {} |", all(rust), all(port));
 }
 
@@ -169,15 +159,6 @@ pub fn visits(all: &[Visits]) {
     for Visits { n, tree, worst, times } in all {
         let (on_tree, on_worst) = (digits(times.first.median), digits(times.second.median));
         println!("| {n} | {tree} | {on_tree} | {worst} | {on_worst} | {} |", ratio(&times.ratio));
-    }
-}
-
-/// At each n a count of the sequences and the occupied total.
-pub fn beside_counting(all: &[Totals]) {
-    heading(&["n", "counting", "total", "total / counting"].map(String::from));
-    for Totals { n, times } in all {
-        let (counting, total) = (digits(times.first.median), digits(times.second.median));
-        println!("| {n} | {counting} | {total} | {} |", ratio(&times.ratio));
     }
 }
 

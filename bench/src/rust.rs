@@ -134,12 +134,6 @@ impl<const N: usize, const M: usize> Side for Rust<N, M> {
         Ok(keys.len() as u32)
     }
 
-    /// The original's own count, slot by slot.
-    #[inline(never)]
-    fn occupied_total(&mut self) -> Result<u32, Refusal> {
-        Ok(self.blocks.len() as u32)
-    }
-
     fn restore(&mut self, from: &Self) {
         self.blocks.restore(&from.blocks);
         self.heads.restore(&from.heads);

@@ -74,14 +74,13 @@ fn depths(list: &List, side: &mut impl Side, paint: u8) -> Vec<usize> {
             all.extend(calls.iter().map(|c| depth(paint, || _ = black_box(side.under(*c)))))
         }
         List::Screen(_) => all.push(depth(paint, || _ = black_box(side.screen()))),
-        List::OccupiedTotal(_) => all.push(depth(paint, || _ = black_box(side.occupied_total()))),
     }
     all
 }
 
 /// The deepest call of the list, the arguments and the return address among its bytes.
 pub fn deepest<S: Side>(list: &List, pair: &mut Pair<S>) -> usize {
-    let empty = PAINTS.iter().map(|paint| depth(*paint, || ()));
+    let empty = depth(PAINTS[0], || ());
     let all = PAINTS.iter().flat_map(|paint| depths(list, pair.restored(), *paint));
-    all.max().zip(empty.max()).map_or(0, |(deep, empty)| deep - empty)
+    all.max().map_or(0, |deep| deep - empty)
 }

@@ -3,15 +3,30 @@
 
 use crate::calls::List;
 use crate::cases::{Case, under_tree};
-use crate::measure::{Effort, Pair, Two, clock, in_turn, timed};
+use crate::measure::{Effort, Pair, clock, in_turn, timed};
 use crate::port::Port;
 use crate::stack::deepest;
+use crate::stats::Spread;
 use station::{BlockSlot, Parts, Sequence, Tables, Under};
 use std::hint::black_box;
 use std::time::Duration;
 
 /// The head slots of the tables.
 pub const HEADS: usize = 16;
+
+/// Nanoseconds of two in turn, and the second as a multiple of the first.
+pub struct Two {
+    pub first: Spread,
+    pub second: Spread,
+    pub ratio: Spread,
+}
+
+impl Two {
+    fn of((first, second): (Vec<f64>, Vec<f64>)) -> Two {
+        let ratio = second.iter().zip(&first).map(|(second, first)| second / first).collect();
+        Two { first: Spread::of(first), second: Spread::of(second), ratio: Spread::of(ratio) }
+    }
+}
 
 /// The marking of the blocks that the case asks for, and what hangs under them, a call each.
 pub fn beside_marking(case: Case, n: usize, effort: Effort) -> Option<Two> {
@@ -79,10 +94,7 @@ impl Asked {
     fn worst(n: usize, m: usize, own_parent: usize) -> Asked {
         let slot = own_parent as u32;
         let fresh = Tables::new(n, m).expect("sizes in range").into_parts();
-        let (parents, sequences) = (vec![slot; n], (0..n as u32).collect());
-        // Every size fills whole words.
-        let map = vec![u64::MAX; n / 64];
-        let parts = Parts { parents, sequences, map, ..fresh };
+        let parts = Parts { parents: vec![slot; n], sequences: (0..n as u32).collect(), ..fresh };
         let tables = Tables::from_parts(parts).expect("parts that fit");
         Asked { tables, slots: vec![BlockSlot(slot)] }
     }

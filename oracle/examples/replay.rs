@@ -18,16 +18,12 @@ const UNDER: usize = 15;
 /// About one line of a screen comes for so many calls: the more heads there are, the fewer screens.
 const SCREEN: usize = 4;
 
-/// How many calls in a hundred are followed by a question for the occupied total.
-const TOTAL: usize = 5;
-
 /// Questions change nothing, and each kind is drawn by itself, so that the other lines are the same
 /// without it.
 struct Draws {
     calls: Random,
     under: Random,
     screen: Random,
-    total: Random,
 }
 
 /// Block slots, head slots and calls of each list.
@@ -58,8 +54,8 @@ const LISTS: [(usize, usize, usize); 22] = [
 
 fn main() -> std::io::Result<()> {
     let folder = Path::new(env!("CARGO_MANIFEST_DIR")).join("../replay");
-    let [calls, under, screen, total] = [SEED; 4].map(Random::new);
-    let mut draws = Draws { calls, under, screen, total };
+    let [calls, under, screen] = [SEED; 3].map(Random::new);
+    let mut draws = Draws { calls, under, screen };
     for (n, m, calls) in LISTS {
         let Written { script, printed } = list(&mut draws, n, m, calls);
         let file = folder.join(format!("n{n}_m{m}"));
@@ -112,9 +108,6 @@ fn questions(draws: &mut Draws, t: &Tables) -> Vec<Call> {
     if draws.screen.below(SCREEN * (heads + 1)) == 0 {
         all.push(Call::Screen { more: 0 });
     }
-    if draws.total.percent(TOTAL) {
-        all.push(Call::Total);
-    }
     all
 }
 
@@ -127,7 +120,7 @@ fn has_line(call: &Call) -> bool {
             .iter()
             .all(|hash| hash.first().is_some_and(|&first| ***hash == [first; 32])),
         Call::Promote { .. } | Call::Remove { .. } | Call::Restart { .. } => true,
-        Call::Under { .. } | Call::Total => true,
+        Call::Under { .. } => true,
         Call::Screen { more } => *more == 0,
     }
 }
@@ -146,7 +139,6 @@ fn said(call: &Call, reply: &Reply) -> String {
         (_, Ok(Answer::Done)) => "R\n".to_string(),
         (_, Ok(Answer::Under(under))) => format!("U {} {}\n", under.blocks, under.highest),
         (_, Ok(Answer::Screen(rows))) => rows.iter().map(shown).collect(),
-        (_, Ok(Answer::Total(total))) => format!("O {total}\n"),
         (_, Ok(Answer::Due(_) | Answer::Unread(_))) => unreachable!("no line asks for it"),
     }
 }

@@ -135,8 +135,6 @@ impl Tables {
                 }
                 Cells::Bytes(bytes) => bytes.iter_mut().for_each(|byte| see(Field::Byte(byte))),
                 Cells::Times(times) => times.iter_mut().for_each(|time| see(Field::Time(time))),
-                // its bits follow the blocks
-                Cells::Map(_) => {}
             }
         }
         see(Field::BlockSlot(&mut self.active));

@@ -1,7 +1,6 @@
 //! The list of the lent buffers, in the port's order: what each is called, how long it is and what
 //! its cells hold. What picks a buffer, or goes through all of them, takes them from here.
 
-use crate::map;
 use crate::tables::Tables;
 use std::fmt;
 
@@ -21,7 +20,6 @@ pub enum Cells<'a> {
     Sequences(&'a mut Vec<u32>),
     Bytes(&'a mut Vec<u8>),
     Times(&'a mut Vec<u64>),
-    Map(&'a mut Vec<u64>),
 }
 
 /// Makes the list, and a pattern of the tables with each buffer in it: a field of the tables that
@@ -45,7 +43,6 @@ buffers! {
     sequences: Sequences, |n, _| n;
     counts: Bytes, |n, _| n;
     flags: Bytes, |n, _| n;
-    map: Map, |n, _| map::words(n);
     tips: BlockSlots, |_, m| m;
     tails: BlockSlots, |_, m| m;
     missing: Hashes, |_, m| 32 * m;
@@ -60,7 +57,7 @@ impl Buffer {
         match (self.cells)(t) {
             Cells::Hashes(bytes) | Cells::Bytes(bytes) => bytes.resize(cells, 0),
             Cells::BlockSlots(words) | Cells::Sequences(words) => words.resize(cells, 0),
-            Cells::Times(words) | Cells::Map(words) => words.resize(cells, 0),
+            Cells::Times(times) => times.resize(cells, 0),
         }
     }
 }

@@ -1,6 +1,5 @@
-//! The calls of the scope document, and what hangs under a block, the head screen and the occupied total,
-//! which leave the tables and are no calls of a list: what each takes and answers, and its line in the
-//! trial program.
+//! The calls of the scope document, and what hangs under a block and the head screen, which leave the
+//! tables and are no calls of a list: what each takes and answers, and its line in the trial program.
 //! Where the trial has no form, it is our own: `N` alone is fresh, `L retry` asks for the earliest
 //! deadline, `-` in place of a retry is none given, `x` comes before a hash of other bytes, and `V +1`
 //! or `V -1` gives the screen a list of so many records more or fewer than there are head slots.
@@ -21,7 +20,6 @@ pub enum Call {
     Restart { now: u64 },
     Under { slot: u32 },
     Screen { more: i8 },
-    Total,
 }
 
 #[derive(Debug, Clone, PartialEq, Eq)]
@@ -32,7 +30,6 @@ pub enum Answer {
     Due(Option<u64>),
     Under(Under),
     Screen(Vec<Row>),
-    Total(u32),
     Done,
     /// What the port returned where it is none of the call's answers.
     Unread(u64),
@@ -44,10 +41,8 @@ pub type Refusal = u8;
 pub type Reply = Result<Answer, Refusal>;
 
 impl Call {
-    pub const NAMES: [&str; 10] = [
-        "fresh", "admit", "promote", "remove", "timer", "deadline", "restart", "under", "screen",
-        "total",
-    ];
+    pub const NAMES: [&str; 9] =
+        ["fresh", "admit", "promote", "remove", "timer", "deadline", "restart", "under", "screen"];
 
     /// The place of the call's name.
     pub fn kind(&self) -> usize {
@@ -61,7 +56,6 @@ impl Call {
             Call::Restart { .. } => 6,
             Call::Under { .. } => 7,
             Call::Screen { .. } => 8,
-            Call::Total => 9,
         }
     }
 
@@ -84,7 +78,6 @@ impl Call {
             ["U", slot] => Call::Under { slot: slot.parse().ok()? },
             ["V"] => Call::Screen { more: 0 },
             ["V", more] => Call::Screen { more: more.parse().ok()? },
-            ["O"] => Call::Total,
             _ => return None,
         })
     }
@@ -105,7 +98,6 @@ impl fmt::Display for Call {
             Call::Under { slot } => write!(f, "U {slot}"),
             Call::Screen { more: 0 } => write!(f, "V"),
             Call::Screen { more } => write!(f, "V {more:+}"),
-            Call::Total => write!(f, "O"),
         }
     }
 }

@@ -13,7 +13,7 @@ macro_rules! entries {
     };
     ($name:ident ($($done:ty,)*) $answer:tt [blocks] $($rest:tt)*) => {
         $crate::entries::entries!($name ($($done,)*) $answer
-            [mut u8] [mut u32] [mut u32] [mut u8] [mut u8] [mut u64] $($rest)*);
+            [mut u8] [mut u32] [mut u32] [mut u8] [mut u8] $($rest)*);
     };
     ($name:ident ($($done:ty,)*) $answer:tt [mut $item:ty] $($rest:tt)*) => {
         $crate::entries::entries!($name ($($done,)* *mut $item, usize,) $answer $($rest)*);
@@ -43,7 +43,7 @@ macro_rules! call {
     ($entry:ident ($($done:expr,)*) [blocks $t:ident] $($rest:tt)*) => {
         $crate::entries::call!($entry ($($done,)*)
             [mut $t.hashes] [mut $t.parents] [mut $t.sequences] [mut $t.counts] [mut $t.flags]
-            [mut $t.map] $($rest)*)
+            $($rest)*)
     };
     ($entry:ident ($($done:expr,)*) [mut $slice:expr] $($rest:tt)*) => {
         $crate::entries::call!($entry ($($done,)* $slice.as_mut_ptr(), $slice.len(),) $($rest)*)

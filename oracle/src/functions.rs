@@ -3,7 +3,7 @@
 
 use crate::args::Args;
 use crate::tables::Tables;
-use crate::{map, original, port};
+use crate::{original, port};
 use std::fmt::Debug;
 
 pub struct Function {
@@ -41,15 +41,12 @@ pub struct Difference {
 }
 
 /// `function!(name(arguments))` compares the functions of this name of both sides. The first
-/// argument may be lent. The judge is the original, unless its module stands before the name.
+/// argument may be lent.
 macro_rules! function {
     ($name:ident($(&$lent:ident,)? $($taken:ident),*)) => {
         function!($name($(&$lent,)? $($taken),*) where |_, _| true)
     };
     ($name:ident($(&$lent:ident,)? $($taken:ident),*) where $compares:expr) => {
-        function!(original::$name($(&$lent,)? $($taken),*) where $compares)
-    };
-    ($judge:ident::$name:ident($(&$lent:ident,)? $($taken:ident),*) where $compares:expr) => {
         Function {
             name: stringify!($name),
             takes: &[$(stringify!($lent),)? $(stringify!($taken)),*],
@@ -57,7 +54,7 @@ macro_rules! function {
             differ: |tables, _args| {
                 compare(
                     tables,
-                    |t| $judge::$name(t, $(&_args.$lent,)? $(_args.$taken),*),
+                    |t| original::$name(t, $(&_args.$lent,)? $(_args.$taken),*),
                     |t| port::$name(t, $(&_args.$lent,)? $(_args.$taken),*),
                 )
                 .err()
@@ -111,13 +108,6 @@ pub static FUNCTIONS: &[Function] = &[
     function!(mark_requested(head, now)),
     function!(earliest_recovery_deadline(retry)),
     function!(outranks(first, second)),
-];
-
-/// The functions that go by the map or change it, by its model: on any map.
-pub static BY_MAP: &[Function] = &[
-    function!(map::next_free_index() where |_, _| true),
-    function!(map::insert(hash, parent, sequence, count, flags) where |_, _| true),
-    function!(map::delete(slot) where |_, _| true),
 ];
 
 fn slot_in_range(tables: &Tables, args: &Args) -> bool {

@@ -7,7 +7,7 @@ use crate::misfit::Misfit;
 use crate::random::Random;
 use crate::tables::{Block, BlockStatus, Hash, Head, NONE_REF, Tables};
 
-const BLOCK_SLOTS: [(usize, usize); 16] = [
+const BLOCK_SLOTS: [(usize, usize); 12] = [
     (1, 60),
     (2, 80),
     (3, 120),
@@ -17,11 +17,7 @@ const BLOCK_SLOTS: [(usize, usize); 16] = [
     (8, 130),
     (12, 100),
     (33, 40),
-    (63, 3),
-    (64, 8),
-    (65, 3),
-    (127, 1),
-    (128, 1),
+    (64, 17),
     (256, 2),
     (1024, 1),
 ];
@@ -36,13 +32,8 @@ const STATUS_ACTIVE: u8 = 0b100;
 
 pub fn tables(r: &mut Random) -> Tables {
     let n = r.weighted(&BLOCK_SLOTS);
-    of_size(r, n)
-}
-
-/// Tables with so many block slots. The map is true of the blocks, whatever their damage.
-pub(crate) fn of_size(r: &mut Random, n: usize) -> Tables {
     let m = r.weighted(&HEAD_SLOTS);
-    let mut t = match r.below(10) {
+    match r.below(10) {
         0..=3 => reached(r, n, m),
         4..=7 => {
             let mut t = reached(r, n, m);
@@ -55,9 +46,7 @@ pub(crate) fn of_size(r: &mut Random, n: usize) -> Tables {
             t
         }
         _ => arbitrary(r, n, m),
-    };
-    t.mend_map();
-    t
+    }
 }
 
 /// Arguments for these tables. The sequence and the hash are often those of one block, or, for a
@@ -250,7 +239,7 @@ fn edge_hash(r: &mut Random) -> Hash {
     r.pick(&[[0; 32], [255; 32], any])
 }
 
-pub(crate) fn any_hash(r: &mut Random) -> Hash {
+fn any_hash(r: &mut Random) -> Hash {
     let mut hash = [0; 32];
     hash.chunks_exact_mut(8).for_each(|part| part.copy_from_slice(&r.word().to_le_bytes()));
     hash
@@ -500,8 +489,6 @@ fn damage_cell(r: &mut Random, t: &mut Tables, buffer: &Buffer) {
         Cells::Sequences(sequences) => *one_of(r, sequences) = sequence(r, &before),
         Cells::Bytes(bytes) => *one_of(r, bytes) = byte(r),
         Cells::Times(times) => *one_of(r, times) = time(r),
-        // it is made true in the end
-        Cells::Map(_) => {}
     }
 }
 

@@ -1,12 +1,9 @@
 //! The original's side of the calls, put together from its functions as the scope document says.
 //! The refusals are read off that document too, in its order. What hangs under a block and the head
-//! screen are models', and the first is the original's too on tables that calls have reached. With a true
-//! map the original is asked as it stands; with a false one the model of the map says which slot is free,
-//! what the total is and what is left of the map, and the original does all else.
+//! screen are models', and the first is the original's too on tables that calls have reached.
 
 use crate::buffers::BUFFERS;
 use crate::calls::{Answer, Call, Refusal, Reply, room};
-use crate::map;
 use crate::original::*;
 use crate::screen::screen;
 use crate::tables::{Block, BlockStatus, Hash, Head, NONE_REF, Tables};
@@ -20,37 +17,13 @@ pub fn run(call: &Call, t: &mut Tables) -> Reply {
     if !is_shaped(t) {
         return Err(1);
     }
-    if map::is_true(t) { alone(call, t, next_free_index) } else { by_map(call, t) }
-}
-
-/// The call on tables of a right shape with any map.
-pub fn by_map(call: &Call, t: &mut Tables) -> Reply {
-    let before = t.clone();
-    let reply = match call {
-        Call::Total => Ok(Answer::Total(map::total(&t.map))),
-        _ => alone(call, t, map::next_free_index),
-    };
-    t.map = match (call, &reply) {
-        (Call::Fresh, Ok(_)) => vec![0; before.map.len()],
-        (_, Ok(Answer::Slot(slot))) => map::left(&before, Some(*slot), t),
-        (_, Ok(_)) => map::left(&before, None, t),
-        (_, Err(_)) => before.map,
-    };
-    reply
-}
-
-/// Which slot is free.
-type Free = fn(&Tables) -> Option<u32>;
-
-/// The call by the original, which leaves a true map.
-fn alone(call: &Call, t: &mut Tables, free: Free) -> Reply {
     match *call {
         Call::Fresh => {
             fresh(t);
             Ok(Answer::Done)
         }
         Call::Admit { sequence, ref hash, ref previous, arrival } => {
-            let slot = admit_to(t, free, sequence, hash, previous, arrival)?;
+            let slot = admit(t, sequence, hash, previous, arrival)?;
             refresh_tails(t);
             Ok(Answer::Slot(slot))
         }
@@ -75,7 +48,6 @@ fn alone(call: &Call, t: &mut Tables, free: Free) -> Reply {
         Call::Under { slot } => under(t, slot).map(Answer::Under).ok_or(3),
         Call::Screen { more } if room(t, more) < t.m() => Err(10),
         Call::Screen { .. } => Ok(Answer::Screen(screen(t))),
-        Call::Total => Ok(Answer::Total(len(t) as u32)),
     }
 }
 
@@ -106,7 +78,6 @@ pub fn is_shaped(t: &Tables) -> bool {
 
 fn fresh(t: &mut Tables) {
     (0..t.n()).for_each(|slot| t.set_block(slot, Block::EMPTY));
-    t.mend_map();
     empty_heads(t);
     t.active = NONE_REF;
 }
@@ -123,17 +94,6 @@ pub fn admit(
     previous: &[u8],
     arrival: u64,
 ) -> Result<u32, Refusal> {
-    admit_to(t, next_free_index, sequence, hash, previous, arrival)
-}
-
-fn admit_to(
-    t: &mut Tables,
-    free: Free,
-    sequence: u32,
-    hash: &[u8],
-    previous: &[u8],
-    arrival: u64,
-) -> Result<u32, Refusal> {
     let hash: Hash = hash.try_into().map_err(|_| 2)?;
     let previous: Hash = previous.try_into().map_err(|_| 2)?;
     if sequence == NONE_REF {
@@ -145,7 +105,7 @@ fn admit_to(
     if find(t, sequence, hash).is_some() {
         return Err(6);
     }
-    let slot = free(t).ok_or(7)?;
+    let slot = next_free_index(t).ok_or(7)?;
     let parent = find_parent(t, previous, sequence);
     insert_at(t, slot, hash, parent.unwrap_or(NONE_REF), sequence, 0, 0);
     on_block_admitted(t, slot, parent, previous, arrival);

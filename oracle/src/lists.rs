@@ -1,7 +1,6 @@
 //! Lists of calls from fresh tables: each call runs on both sides on the same tables, the answers,
 //! every byte of the tables and the record must agree, and then the promises must hold, and the port
-//! must say of the slots what the original lists under them, show the heads as the model does, and count
-//! the occupied slots as the original does.
+//! must say of the slots what the original lists under them, and show the heads as the model does.
 
 use crate::calls::{Call, Reply};
 use crate::functions::{Difference, compare};
@@ -73,7 +72,7 @@ impl Reached {
             }
         };
         let under = self.slots().map(|slot| Call::Under { slot });
-        under.chain([Call::Screen { more: 0 }, Call::Total]).map(ask).collect()
+        under.chain([Call::Screen { more: 0 }]).map(ask).collect()
     }
 
     /// The slots to ask for, the first beyond the table among them. The original's lists take long

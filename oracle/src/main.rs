@@ -5,9 +5,9 @@ use std::process::ExitCode;
 use std::time::{Duration, Instant};
 
 const USAGE: &str = "\
-usage: compare [functions] [exhaustive] [lists] [damaged] [under] [screen] [map]
+usage: compare [functions] [exhaustive] [lists] [damaged] [under] [screen]
                [--seed N] [--rounds K] [--seconds S]
-Without a mode all seven run. The seed is 1 by default; --rounds and --seconds bound each of the random
+Without a mode all six run. The seed is 1 by default; --rounds and --seconds bound each of the random
 modes (all but exhaustive) by itself, and --seconds alone sets no bound on the rounds.";
 
 struct Options {

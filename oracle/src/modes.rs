@@ -4,14 +4,14 @@
 use crate::args::Args;
 use crate::calls::{Answer, Call};
 use crate::exhaustive::ALPHABETS;
-use crate::functions::{BY_MAP, Case, FUNCTIONS};
+use crate::functions::{Case, FUNCTIONS};
 use crate::lists::{List, Reached, Trouble, both};
 use crate::random::Random;
 use crate::scripts::{self, Script};
 use crate::single::{self, SINGLES, Single};
 use crate::tables::Tables;
 use crate::tally::Tally;
-use crate::{generate, maps, rings, shorten, show, shrink, tips};
+use crate::{generate, rings, shorten, show, shrink, tips};
 use std::time::{Duration, Instant};
 
 /// The seed of the random modes, and how many rounds each makes.
@@ -26,14 +26,13 @@ pub type Compared = Result<u64, String>;
 /// A mode by its name.
 pub type Mode = (&'static str, fn(&Bounds) -> Compared);
 
-pub const MODES: [Mode; 7] = [
+pub const MODES: [Mode; 6] = [
     ("functions", functions),
     ("exhaustive", exhaustive),
     ("lists", lists),
     ("damaged", damaged),
     ("under", under),
     ("screen", screen),
-    ("map", map),
 ];
 
 impl Bounds {
@@ -178,37 +177,6 @@ fn screen(bounds: &Bounds) -> Compared {
         let calls = generate::MORE.into_iter().map(|more| (single, args(more))).collect();
         (tables, calls)
     })
-}
-
-/// A round is one table of any map, each call on it, admit more often, and the functions that go by the
-/// map.
-fn map(bounds: &Bounds) -> Compared {
-    let mut random = bounds.random();
-    let mut tally = Tally::default();
-    let mut functions = 0;
-    let mut tables_made = 0;
-    let admit = single::named("admit");
-    for round in bounds.rounds(40_000) {
-        let tables = maps::tables(&mut random, round);
-        let smallest = |case| smallest_case(case, bounds.seed, round);
-        for single in SINGLES.iter().chain([admit; 2]) {
-            let args = maps::args(&mut random, &tables);
-            compare_single(single, &tables, args, &mut tally).map_err(|case| smallest(*case))?;
-        }
-        for function in BY_MAP {
-            let args = generate::args(&mut random, &tables);
-            if (function.differ)(&tables, &args).is_some() {
-                return Err(smallest(Case { function, tables, args }));
-            }
-            functions += 1;
-        }
-        tables_made += 1;
-    }
-    print!("{tally}");
-    let names: Vec<&str> = BY_MAP.iter().map(|function| function.name).collect();
-    println!("  {}: {functions}", names.join(", "));
-    println!("  {tables_made} tables");
-    Ok(tally.calls() + functions)
 }
 
 /// Single calls with what each is given.

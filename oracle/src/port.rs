@@ -10,7 +10,7 @@ use crate::tables::{
 entries! {
     probe_hash_less([u8], [u8]) -> u32;
     station_find([u8], [u32], u32, [u8]) -> u32;
-    station_next_free_index([u32], [u64]) -> u32;
+    station_next_free_index([u32]) -> u32;
     station_find_parent([u8], [u32], u32, [u8]) -> u32;
     station_get([u8], [u32], [u32], [u8], [u8], u32, [mut u8], [mut u32]) -> u32;
     station_head_ref_count([u32], [u8], u32) -> u32;
@@ -88,7 +88,7 @@ pub fn find(t: &Tables, sequence: u32, hash: Hash) -> Option<u32> {
 }
 
 pub fn next_free_index(t: &Tables) -> Option<u32> {
-    found(call!(station_next_free_index([t.sequences], [t.map])))
+    found(call!(station_next_free_index([t.sequences])))
 }
 
 pub fn find_parent(t: &Tables, previous: Hash, sequence: u32) -> Option<u32> {

@@ -1,6 +1,6 @@
-//! Demand 3 on real tables, written from the scope document's "Lists of calls" and what S-3 says of the
-//! map, and from nothing else. A ledger is kept of what the calls of the list were and what they
-//! answered; everything else is worked out afresh from the tables after each call.
+//! Demand 3 on real tables, written from the scope document's "Lists of calls" alone. A ledger is
+//! kept of what the calls of the list were and what they answered; everything else is worked out
+//! afresh from the tables after each call.
 
 use crate::calls::{Answer, Call, Reply};
 use crate::tables::{Block, Hash, Head, NONE_REF, Tables};
@@ -67,8 +67,7 @@ impl Ledger {
             | (Call::Deadline { .. }, Answer::Due(_))
             | (Call::Restart { .. }, Answer::Done)
             | (Call::Under { .. }, Answer::Under(_))
-            | (Call::Screen { .. }, Answer::Screen(_))
-            | (Call::Total, Answer::Total(_)) => {}
+            | (Call::Screen { .. }, Answer::Screen(_)) => {}
             _ => return Err("the answer is not one of the call's".to_string()),
         }
         Ok(())
@@ -86,8 +85,7 @@ impl Ledger {
         let children = children(t);
         let heads = tips(t, &children)?;
         self.counts_and_heads(t, &children, &heads)?;
-        self.anchors(t)?;
-        map(t)
+        self.anchors(t)
     }
 
     /// The promoted slots keep their blocks, and bit 0 is set exactly on them.
@@ -202,18 +200,6 @@ impl Ledger {
 
 fn is_occupied(t: &Tables, slot: u32) -> bool {
     t.sequences.get(slot as usize).is_some_and(|&sequence| sequence != NONE_REF)
-}
-
-/// Each slot's bit says whether it is occupied, and no bit past the last slot is set.
-fn map(t: &Tables) -> Result<(), String> {
-    for bit in 0..64 * t.map.len() {
-        let is_set = t.map[bit / 64] >> (bit % 64) & 1 == 1;
-        if is_set != is_occupied(t, bit as u32) {
-            let kind = if bit < t.n() { "" } else { ", past the last slot," };
-            return Err(format!("bit {bit} of the map{kind} is {}", u8::from(is_set)));
-        }
-    }
-    Ok(())
 }
 
 /// For each slot, the number of occupied blocks whose parent slot it is.

@@ -31,7 +31,6 @@ pub fn tables(r: &mut Random, round: u64) -> Tables {
     let mut order: Vec<usize> = (0..n).collect();
     r.shuffle(&mut order);
     shape(r, &mut t, &order);
-    t.mend_map();
     t
 }
 

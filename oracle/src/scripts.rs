@@ -7,7 +7,7 @@ use crate::generate::{Hashes, LENGTHS, TOP, any_slot, given_span, time};
 use crate::random::Random;
 use crate::tables::{Block, Hash, NONE_REF, Tables};
 
-const BLOCK_SLOTS: [(usize, usize); 16] = [
+const BLOCK_SLOTS: [(usize, usize); 12] = [
     (1, 20),
     (2, 50),
     (3, 90),
@@ -17,12 +17,8 @@ const BLOCK_SLOTS: [(usize, usize); 16] = [
     (8, 150),
     (12, 120),
     (33, 60),
-    (63, 6),
-    (64, 12),
-    (65, 6),
-    (127, 1),
-    (128, 2),
-    (256, 4),
+    (64, 30),
+    (256, 5),
     (1024, 1),
 ];
 const HEAD_SLOTS: [(usize, usize); 7] =

@@ -4,7 +4,6 @@ use crate::calls::Call;
 use crate::functions::{Case, Difference};
 use crate::judge::is_shaped;
 use crate::lists::{List, Trouble};
-use crate::map;
 use crate::tables::{Block, Head, NONE_REF, Tables};
 
 /// The call, the tables before it, and each side's answer and the tables after it.
@@ -13,13 +12,8 @@ pub fn difference(case: &Case, found: &Difference) -> String {
     let taken = taken.iter().filter(|(name, _)| case.function.takes.contains(name));
     let taken: Vec<String> = taken.map(|(name, value)| format!("{name} {value}")).collect();
     let call = format!("{}({})", case.function.name, taken.join(", "));
-    let judge = match case.function.name {
-        "under" | "screen" => "the model",
-        _ if is_shaped(&found.before) && !map::is_true(&found.before) => {
-            "the original with the model's map"
-        }
-        _ => "the original",
-    };
+    let has_model = ["under", "screen"].contains(&case.function.name);
+    let judge = if has_model { "the model" } else { "the original" };
     format!("{call}\n\n{}", sides(&case.tables, found, judge))
 }
 
@@ -79,7 +73,7 @@ fn changes(before: &Tables, after: &Tables) -> String {
     marked.collect()
 }
 
-/// A line for each slot, one for the words of the map and one for the active head.
+/// A line for each slot.
 pub fn lines(t: &Tables) -> Vec<String> {
     let blocks = (0..t.n()).map(|slot| match t.block(slot) {
         Block::EMPTY => format!("  block {slot}: empty"),
@@ -104,9 +98,8 @@ pub fn lines(t: &Tables) -> Vec<String> {
             hex(&head.missing),
         ),
     });
-    let map: String = t.map.iter().map(|word| format!(" {word:016x}")).collect();
     let active = format!("  active head: {}", reference(t.active));
-    blocks.chain([format!("  map:{map}")]).chain(heads).chain([active]).collect()
+    blocks.chain(heads).chain([active]).collect()
 }
 
 /// A slot or a sequence, `-` for none.

@@ -1,9 +1,8 @@
-//! From a case that differs to a smaller one that still does: fewer slots, emptied slots, a truer map,
-//! smaller numbers and plainer hashes, as long as any such step keeps a difference.
+//! From a case that differs to a smaller one that still does: fewer slots, emptied slots, smaller
+//! numbers and plainer hashes, as long as any such step keeps a difference.
 
 use crate::args::Field;
 use crate::functions::Case;
-use crate::map;
 use crate::random::Random;
 use crate::sizes::{BLOCK_SLOTS, HEAD_SLOTS};
 use crate::tables::{Block, Hash, Head, NONE_REF, Tables};
@@ -24,7 +23,6 @@ pub fn shrink(case: Case) -> Case {
         shrinker.fewer_blocks();
         shrinker.fewer_heads();
         shrinker.emptier();
-        shrinker.truer_map();
         shrinker.lower_sequences();
         shrinker.plainer_hashes();
         shrinker.plainer_fields();
@@ -41,16 +39,13 @@ struct Shrinker {
 }
 
 impl Shrinker {
-    /// Takes the changed case if it costs less and still differs. A true map stays true.
+    /// Takes the changed case if it costs less and still differs.
     fn attempt(&mut self, change: impl FnOnce(&mut Case)) -> bool {
         if Instant::now() > self.end {
             return false;
         }
         let mut case = self.case.clone();
         change(&mut case);
-        if map::is_true(&self.case.tables) {
-            case.tables.mend_map();
-        }
         let cost = cost(&case);
         let better = cost < self.cost && case.difference().is_some();
         if better {
@@ -123,15 +118,6 @@ impl Shrinker {
                 });
             }
             run /= 2;
-        }
-    }
-
-    /// Makes the map true, or single bits of it.
-    fn truer_map(&mut self) {
-        self.attempt(|case| case.tables.mend_map());
-        let right = map::of(&self.case.tables.sequences);
-        for (slot, bit) in map::bits(&right).enumerate() {
-            self.attempt(|case| map::put(&mut case.tables.map, slot, bit));
         }
     }
 
@@ -218,8 +204,7 @@ fn cost(case: &Case) -> (usize, u128) {
     let args = &case.args;
     let mut sum = u128::from(args.misfit.is_some())
         + u128::from(args.hash_length != 32)
-        + u128::from(args.previous_length != 32)
-        + false_bits(&case.tables);
+        + u128::from(args.previous_length != 32);
     let mut case = case.clone();
     each_field(&mut case, &mut |field| {
         sum += match field {
@@ -234,11 +219,6 @@ fn cost(case: &Case) -> (usize, u128) {
         }
     });
     (case.tables.n() + case.tables.m(), sum)
-}
-
-fn false_bits(t: &Tables) -> u128 {
-    let right = map::of(&t.sequences);
-    map::bits(&t.map).zip(map::bits(&right)).filter(|(bit, right)| bit != right).count() as u128
 }
 
 fn each_field(case: &mut Case, see: &mut impl FnMut(Field)) {
@@ -277,19 +257,14 @@ fn plainer(field: Field, step: usize) -> bool {
     }
 }
 
-/// Keeps these block slots alone, with their bits. What referred to another becomes none, and what was
-/// out of range stays as far out of it.
+/// Keeps these block slots alone. What referred to another becomes none, and what was out of range
+/// stays as far out of it.
 fn keep_blocks(case: &mut Case, kept: &[usize]) {
     let old = case.tables.clone();
     let gone = (old.n() - kept.len()) as u32;
     case.tables = Tables::empty(kept.len(), old.m());
     for (slot, &was) in kept.iter().enumerate() {
         case.tables.set_block(slot, old.block(was));
-    }
-    let bits: Vec<bool> = map::bits(&old.map).collect();
-    let stays = kept.iter().copied().chain(old.n()..bits.len());
-    for (bit, was) in stays.enumerate().take(64 * case.tables.map.len()) {
-        map::put(&mut case.tables.map, bit, bits[was]);
     }
     for slot in 0..old.m() {
         case.tables.set_head(slot, old.head(slot));

@@ -43,7 +43,6 @@ pub static SINGLES: &[Single] = &[
     single!(restart(now), |args| Call::Restart { now: args.now }),
     single!(under(slot), |args| Call::Under { slot: args.slot }),
     single!(screen(more), |args| Call::Screen { more: args.more }),
-    single!(total(), |_args| Call::Total),
 ];
 
 /// The call of this name.

@@ -1,12 +1,12 @@
 //! The sizes for which the original's tables are compiled, and the choice of one at run time.
 
-pub const BLOCK_SLOTS: [usize; 16] = [1, 2, 3, 4, 5, 6, 8, 12, 33, 63, 64, 65, 127, 128, 256, 1024];
+pub const BLOCK_SLOTS: [usize; 12] = [1, 2, 3, 4, 5, 6, 8, 12, 33, 64, 256, 1024];
 pub const HEAD_SLOTS: [usize; 7] = [2, 3, 4, 5, 8, 16, 64];
 
 /// `by_n!(n, N => body)` is the body with N as the constant of value n, one of `BLOCK_SLOTS`.
 macro_rules! by_n {
     ($n:expr, $N:ident => $body:expr) => {
-        $crate::sizes::by_size!($n, $N => $body; 1 2 3 4 5 6 8 12 33 63 64 65 127 128 256 1024)
+        $crate::sizes::by_size!($n, $N => $body; 1 2 3 4 5 6 8 12 33 64 256 1024)
     };
 }
 

@@ -26,7 +26,6 @@ entries! {
     station_restart([all], u32, u64) -> u64;
     station_under([all], u32, [mut u32]) -> u64;
     station_screen([all], [mut Row]) -> u64;
-    station_occupied_total([all]) -> u64;
 }
 
 /// What each byte of a place for an answer holds before the call.
@@ -59,9 +58,6 @@ pub fn run(call: &Call, t: &mut Tables) -> Reply {
         }
         Call::Under { slot } => under(t, slot),
         Call::Screen { more } => screen(t, room(t, more)),
-        Call::Total => {
-            read(call!(station_occupied_total([all t])), |total| Some(Answer::Total(total)))
-        }
     }
 }
 

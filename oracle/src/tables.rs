@@ -1,7 +1,5 @@
 //! The lent buffers, in the port's order, and the two records whose fields they hold.
 
-use crate::map;
-
 pub use crate::staged_validation::BlockStatus;
 
 pub const NONE_REF: u32 = u32::MAX;
@@ -70,7 +68,7 @@ pub enum NotInserted {
     Full,
 }
 
-/// The five buffers of n blocks and their map, the six of m heads, and the active head's slot.
+/// The five buffers of n blocks, the six of m heads, and the active head's slot.
 #[derive(Debug, Clone, PartialEq, Eq, Hash)]
 pub struct Tables {
     pub hashes: Vec<u8>,
@@ -78,7 +76,6 @@ pub struct Tables {
     pub sequences: Vec<u32>,
     pub counts: Vec<u8>,
     pub flags: Vec<u8>,
-    pub map: Vec<u64>,
     pub tips: Vec<u32>,
     pub tails: Vec<u32>,
     pub missing: Vec<u8>,
@@ -96,7 +93,6 @@ impl Tables {
             sequences: vec![NONE_REF; n],
             counts: vec![0; n],
             flags: vec![0; n],
-            map: vec![0; map::words(n)],
             tips: vec![NONE_REF; m],
             tails: vec![NONE_REF; m],
             missing: vec![0; 32 * m],
@@ -115,7 +111,6 @@ impl Tables {
             sequences: vec![1; n],
             counts: vec![1; n],
             flags: vec![1; n],
-            map: vec![u64::MAX; map::words(n)],
             tips: vec![1; m],
             tails: vec![1; m],
             missing: vec![1; 32 * m],
@@ -128,15 +123,9 @@ impl Tables {
 
     /// The same blocks with so many empty head slots.
     pub fn with_empty_heads(&self, m: usize) -> Tables {
-        let map = self.map.clone();
-        let mut t = Tables { map, active: self.active, ..Tables::empty(self.n(), m) };
+        let mut t = Tables { active: self.active, ..Tables::empty(self.n(), m) };
         (0..self.n()).for_each(|slot| t.set_block(slot, self.block(slot)));
         t
-    }
-
-    /// Makes the map true of the blocks.
-    pub fn mend_map(&mut self) {
-        self.map = map::of(&self.sequences);
     }
 
     pub fn n(&self) -> usize {

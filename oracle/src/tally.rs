@@ -3,7 +3,6 @@
 
 use crate::beneath::Beneath;
 use crate::calls::{Answer, Call, Reply};
-use crate::mapped::Mapped;
 use crate::shown::Shown;
 use crate::tables::{NONE_REF, Tables};
 use std::fmt;
@@ -17,7 +16,6 @@ pub struct Tally {
     met: Met,
     beneath: Beneath,
     shown: Shown,
-    mapped: Mapped,
 }
 
 /// What accepted calls did.
@@ -44,7 +42,6 @@ struct Met {
 impl Tally {
     pub fn note(&mut self, call: &Call, reply: &Reply, before: &Tables, after: &Tables) {
         self.count(call, reply);
-        self.mapped.note(call, reply, before, after);
         match (call, reply) {
             (Call::Under { slot }, Ok(Answer::Under(under))) => {
                 self.beneath.note(before, *slot, under.blocks);
@@ -122,9 +119,6 @@ impl fmt::Display for Tally {
         }
         if self.shown != Shown::default() {
             write!(f, "{}", self.shown)?;
-        }
-        if self.mapped != Mapped::default() {
-            write!(f, "{}", self.mapped)?;
         }
         Ok(())
     }

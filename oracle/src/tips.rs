@@ -37,7 +37,6 @@ pub fn tables(r: &mut Random, round: u64) -> Tables {
     let mut t = arbitrary(r, n, m);
     tips(r, &mut t);
     sequences(r, &mut t);
-    t.mend_map();
     t
 }
 

@@ -1,4 +1,4 @@
-//! What goes by the list of buffers, or by the two records and the map, meets every buffer of the tables.
+//! What goes by the list of buffers, or by the two records, meets every buffer of the tables.
 
 use oracle::buffers::BUFFERS;
 use oracle::judge::is_shaped;
@@ -9,10 +9,9 @@ const N: usize = 5;
 const M: usize = 4;
 
 #[test]
-fn the_records_and_the_map_hold_all_that_the_buffers_hold() {
+fn the_records_hold_all_that_the_buffers_hold() {
     let used = Tables::used(N, M);
-    let (map, active) = (used.map.clone(), used.active);
-    let mut t = Tables { map, active, ..Tables::empty(N, M) };
+    let mut t = Tables { active: used.active, ..Tables::empty(N, M) };
     (0..N).for_each(|slot| t.set_block(slot, used.block(slot)));
     (0..M).for_each(|slot| t.set_head(slot, used.head(slot)));
     assert_eq!(t, used);

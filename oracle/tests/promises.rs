@@ -11,7 +11,7 @@ const LIST: [&str; 5] = ["A 1 01 00 1", "A 2 02 01 2", "A 2 03 01 3", "P 0", "A 
 /// A fault, and what is then broken.
 type Fault = (fn(&mut Tables), &'static str);
 
-const FAULTS: [Fault; 25] = [
+const FAULTS: [Fault; 21] = [
     (|t| t.hashes[0] = 7, "active block 0 has not kept its sequence and hash"),
     (|t| t.set_block(0, t.block(4)), "active block 0 has not kept its sequence and hash"),
     (|t| t.hashes[32] = 7, "block 1 is not the one last admitted there"),
@@ -33,10 +33,6 @@ const FAULTS: [Fault; 25] = [
     (|t| t.connected[2] = 1, "head 2 is wrong about whether it is connected"),
     (|t| t.tails[0] = 1, "head 0 has anchor 1, its walk gives 0"),
     (|t| t.tails[2] = NONE_REF, "head 2 has anchor 4294967295, its walk gives 3"),
-    (|t| t.map[0] = 0b0_1101, "bit 1 of the map is 0"),
-    (|t| t.map[0] = 0b1_1111, "bit 4 of the map is 1"),
-    (|t| t.map[0] |= 1 << 5, "bit 5 of the map, past the last slot, is 1"),
-    (|t| t.map[0] |= 1 << 63, "bit 63 of the map, past the last slot, is 1"),
 ];
 
 fn reached() -> (Ledger, Tables) {

@@ -1,5 +1,4 @@
-//! A child module of the original's blocks.rs: copies of its table, and its fields in the common form,
-//! with the map of occupied slots that it does not keep.
+//! A child module of the original's blocks.rs: copies of its table, and its fields in the common form.
 
 use super::{BlockEntry, BlockTable};
 use station::Parts;
@@ -27,14 +26,12 @@ impl<const N: usize> BlockTable<N> {
     }
 
     pub(crate) fn show(&self, t: &mut Parts) {
-        t.map = vec![0; N.div_ceil(64)];
-        for (slot, entry) in self.blocks.iter().enumerate() {
+        for entry in &self.blocks {
             t.hashes.extend(entry.hash);
             t.parents.push(entry.parent_ref);
             t.sequences.push(entry.sequence);
             t.counts.push(entry.head_ref_count);
             t.flags.push(entry.flags);
-            t.map[slot / 64] |= u64::from(!entry.is_empty_slot()) << (slot % 64);
         }
     }
 }

@@ -1,9 +1,9 @@
 //! The booking chain's block tree and its heads, proved, for Rust programs.
 //!
 //! A station keeps its bookings in blocks, each of which names its parent by hash. [`Tables`] hold up to
-//! 1,024 of them and the heads of up to 64 branches; [`Tables::promote`] confirms a block,
-//! [`Tables::screen`] shows the branches, and [`Tables::occupied_total`] counts the blocks. A full head
-//! table evicts a branch, and a block that another branch shares, or that is confirmed, must stay.
+//! 1,024 of them and the heads of up to 64 branches; [`Tables::promote`] confirms a block, and
+//! [`Tables::screen`] shows the branches. A full head table evicts a branch, and a block that another
+//! branch shares, or that is confirmed, must stay.
 //!
 //! ```
 //! use station::{BlockSlot, Refusal, Sequence, Tables};
@@ -36,10 +36,9 @@
 //! 1. On any buffers, slots, hashes and clocks a call ends, stays within its buffers, and does its
 //!    work or refuses with one [`Refusal`] and leaves every byte as it stood.
 //! 2. Its answer and what it leaves are those of its rule in `crates/rules/specs`.
-//! 3. After every list of calls from fresh tables the counts, heads, anchors and the map of occupied
-//!    slots are those worked out afresh from the blocks, the active blocks are those promoted, and none
-//!    was ever freed; and [`Tables::under`] counts the blocks that [`Tables::subtree`] lists, and
-//!    [`Tables::occupied_total`] those that [`Tables::blocks`] gives.
+//! 3. After every list of calls from fresh tables the counts, heads and anchors are those worked out
+//!    afresh from the blocks, the active blocks are those promoted, and none was ever freed; and
+//!    [`Tables::under`] counts the blocks that [`Tables::subtree`] lists.
 //!
 //! Not proved, but tested: that this crate declares the archive's functions as they are (`src/raw.rs`),
 //! and the Rust around them, which lends the buffers and reads the answers. [`Tables::heads`],
@@ -52,10 +51,9 @@
 //! answer, and save it whole: write a second file, flush it to the disk and rename it over the first, so
 //! that a crash leaves the old tables or the new ones and nothing in between. When the station comes up
 //! again, [`Tables::from_bytes`] refuses what is not such bytes, and [`Tables::restart`] comes before all
-//! else. Of the bytes the hashes, parents, sequences and flags of the blocks, their map and the record
-//! must come back as one call left them; the counts of blocks and the heads may be anything. They are
-//! the bytes of a store of `include/station.h`. A store of version 0.4 or before has no map and is
-//! refused; [`Tables::from_parts`] takes its fields, with a map made from its sequences.
+//! else. Of the bytes the hashes, parents, sequences and flags of the blocks and the record must come
+//! back as one call left them; the counts of blocks and the heads may be anything. They are the bytes of
+//! a store of `include/station.h`.
 //!
 //! # Building
 //!

@@ -58,66 +58,61 @@ macro_rules! entries {
 entries! {
     fn station_fresh(
         hashes: &mut [u8], parents: &mut [u32], sequences: &mut [u32], counts: &mut [u8],
-        flags: &mut [u8], map: &mut [u64], tips: &mut [u32], tails: &mut [u32],
-        missing: &mut [u8], requested: &mut [u64], arrivals: &mut [u64], connected: &mut [u8],
+        flags: &mut [u8], tips: &mut [u32], tails: &mut [u32], missing: &mut [u8],
+        requested: &mut [u64], arrivals: &mut [u64], connected: &mut [u8],
         held: &mut ActiveHead
     ) -> u64;
     fn station_admit(
         hashes: &mut [u8], parents: &mut [u32], sequences: &mut [u32], counts: &mut [u8],
-        flags: &mut [u8], map: &mut [u64], tips: &mut [u32], tails: &mut [u32],
-        missing: &mut [u8], requested: &mut [u64], arrivals: &mut [u64], connected: &mut [u8],
+        flags: &mut [u8], tips: &mut [u32], tails: &mut [u32], missing: &mut [u8],
+        requested: &mut [u64], arrivals: &mut [u64], connected: &mut [u8],
         active: u32, sequence: u32, hash: &[u8], previous: &[u8], arrival: u64
     ) -> u64;
     fn station_promote(
         hashes: &[u8], parents: &[u32], sequences: &[u32], counts: &[u8],
-        flags: &mut [u8], map: &[u64], tips: &[u32], tails: &mut [u32],
-        missing: &mut [u8], requested: &mut [u64], arrivals: &[u64], connected: &mut [u8],
+        flags: &mut [u8], tips: &[u32], tails: &mut [u32], missing: &mut [u8],
+        requested: &mut [u64], arrivals: &[u64], connected: &mut [u8],
         held: &mut ActiveHead, slot: u32
     ) -> u64;
     fn station_remove(
         hashes: &mut [u8], parents: &mut [u32], sequences: &mut [u32], counts: &mut [u8],
-        flags: &mut [u8], map: &mut [u64], tips: &mut [u32], tails: &mut [u32],
-        missing: &mut [u8], requested: &mut [u64], arrivals: &mut [u64], connected: &mut [u8],
+        flags: &mut [u8], tips: &mut [u32], tails: &mut [u32], missing: &mut [u8],
+        requested: &mut [u64], arrivals: &mut [u64], connected: &mut [u8],
         root: u32
     ) -> u64;
     fn station_under(
         hashes: &[u8], parents: &[u32], sequences: &[u32], counts: &[u8],
-        flags: &[u8], map: &[u64], tips: &[u32], tails: &[u32],
-        missing: &[u8], requested: &[u64], arrivals: &[u64], connected: &[u8],
+        flags: &[u8], tips: &[u32], tails: &[u32], missing: &[u8],
+        requested: &[u64], arrivals: &[u64], connected: &[u8],
         slot: u32, highest: &mut [u32]
-    ) -> u64;
-    fn station_occupied_total(
-        hashes: &[u8], parents: &[u32], sequences: &[u32], counts: &[u8],
-        flags: &[u8], map: &[u64], tips: &[u32], tails: &[u32],
-        missing: &[u8], requested: &[u64], arrivals: &[u64], connected: &[u8]
     ) -> u64;
     fn station_screen(
         hashes: &[u8], parents: &[u32], sequences: &[u32], counts: &[u8],
-        flags: &[u8], map: &[u64], tips: &[u32], tails: &[u32],
-        missing: &[u8], requested: &[u64], arrivals: &[u64], connected: &[u8],
+        flags: &[u8], tips: &[u32], tails: &[u32], missing: &[u8],
+        requested: &[u64], arrivals: &[u64], connected: &[u8],
         rows: &mut [HeadRow]
     ) -> u64;
     fn station_timer(
         hashes: &[u8], parents: &[u32], sequences: &[u32], counts: &[u8],
-        flags: &[u8], map: &[u64], tips: &[u32], tails: &[u32],
-        missing: &[u8], requested: &mut [u64], arrivals: &[u64], connected: &[u8],
+        flags: &[u8], tips: &[u32], tails: &[u32], missing: &[u8],
+        requested: &mut [u64], arrivals: &[u64], connected: &[u8],
         clock: u64, given: u32, span: u64, claimed: &mut [u32], wanted: &mut [u8]
     ) -> u64;
     fn station_earliest_deadline(
         hashes: &[u8], parents: &[u32], sequences: &[u32], counts: &[u8],
-        flags: &[u8], map: &[u64], tips: &[u32], tails: &[u32],
-        missing: &[u8], requested: &[u64], arrivals: &[u64], connected: &[u8],
+        flags: &[u8], tips: &[u32], tails: &[u32], missing: &[u8],
+        requested: &[u64], arrivals: &[u64], connected: &[u8],
         given: u32, span: u64, time: &mut [u64]
     ) -> u64;
     fn station_restart(
         hashes: &mut [u8], parents: &mut [u32], sequences: &mut [u32], counts: &mut [u8],
-        flags: &mut [u8], map: &mut [u64], tips: &mut [u32], tails: &mut [u32],
-        missing: &mut [u8], requested: &mut [u64], arrivals: &mut [u64], connected: &mut [u8],
+        flags: &mut [u8], tips: &mut [u32], tails: &mut [u32], missing: &mut [u8],
+        requested: &mut [u64], arrivals: &mut [u64], connected: &mut [u8],
         active: u32, clock: u64
     ) -> u64;
 
     fn station_find(hashes: &[u8], sequences: &[u32], sequence: u32, hash: &[u8]) -> u32;
-    fn station_next_free_index(sequences: &[u32], map: &[u64]) -> u32;
+    fn station_next_free_index(sequences: &[u32]) -> u32;
     fn station_find_parent(
         hashes: &[u8], sequences: &[u32], sequence: u32, previous: &[u8]
     ) -> u32;

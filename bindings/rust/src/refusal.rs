@@ -30,8 +30,7 @@ pub enum Refusal {
     ZeroHash = 5,
     /// 6, admit: an occupied slot has this sequence and hash.
     Known = 6,
-    /// 7, admit: no block slot is empty, even if an eviction would empty one. The archive's own call may
-    /// give it for a false map, too, which [`Tables`](crate::Tables) do not have.
+    /// 7, admit: no block slot is empty, even if an eviction would empty one.
     Full = 7,
     /// 8, promote: there is an active head, and it is not the block's parent.
     NotNext = 8,
@@ -47,15 +46,11 @@ pub enum Refusal {
     /// [`from_parts`](crate::Tables::from_parts): the record does not name the last block of the active
     /// chain, or names a block where none is active.
     Record = 101,
-    /// 102, [`Tables::from_bytes`](crate::Tables::from_bytes) and
-    /// [`from_parts`](crate::Tables::from_parts): the map is false, which is to say that the bit of an
-    /// occupied slot is 0 or another bit is 1.
-    Map = 102,
 }
 
 impl Refusal {
     /// All refusals, in the order of their numbers.
-    pub const ALL: [Refusal; 13] = [
+    pub const ALL: [Refusal; 12] = [
         Refusal::Shape,
         Refusal::HashLength,
         Refusal::NoBlock,
@@ -68,7 +63,6 @@ impl Refusal {
         Refusal::ShortList,
         Refusal::Store,
         Refusal::Record,
-        Refusal::Map,
     ];
 
     /// The refusal's number.
@@ -96,13 +90,12 @@ impl fmt::Display for Refusal {
             Refusal::ReservedSequence => "the sequence 4,294,967,295 is reserved",
             Refusal::ZeroHash => "the block's hash is all zeros",
             Refusal::Known => "a block with this sequence and hash is already there",
-            Refusal::Full => "no block slot is free",
+            Refusal::Full => "no block slot is empty",
             Refusal::NotNext => "the block's parent is not the active head",
             Refusal::HoldsActive => "the slot's subtree has a block on the active chain",
             Refusal::ShortList => "the list has fewer records than there are head slots",
             Refusal::Store => "what was loaded is no store of this layout and of this many slots",
             Refusal::Record => "the record is not the last block of the active chain",
-            Refusal::Map => "the map's bits are not those of the occupied slots",
         })
     }
 }

@@ -7,7 +7,7 @@ use alloc::vec::Vec;
 
 /// How a mark begins, after the zeros that fill the store up to a multiple of 8: the store's name, and
 /// the number of its layout. The numbers of block slots and of head slots follow.
-const NAME: &[u8; 8] = b"station\x02";
+const NAME: &[u8; 8] = b"station\x01";
 
 /// The bytes of a mark but for the zeros.
 const MARK: usize = 16;
@@ -30,8 +30,8 @@ impl Tables {
     pub fn to_bytes(&self) -> Vec<u8> {
         let parts = self.parts();
         let mut bytes = Vec::new();
-        for longs in [&parts.map, &parts.requested, &parts.arrivals] {
-            bytes.extend(longs.iter().flat_map(|long| long.to_le_bytes()));
+        for times in [&parts.requested, &parts.arrivals] {
+            bytes.extend(times.iter().flat_map(|time| time.to_le_bytes()));
         }
         for words in [&parts.parents, &parts.sequences, &parts.tips, &parts.tails] {
             bytes.extend(words.iter().flat_map(|word| word.to_le_bytes()));
@@ -67,9 +67,8 @@ fn read(bytes: &[u8]) -> Option<Parts> {
     let (n, m) = (slots.word()? as usize, slots.word()? as usize);
     let mut rest = Rest(rest);
     let parts = Parts {
-        map: rest.longs(n.div_ceil(64))?,
-        requested: rest.longs(m)?,
-        arrivals: rest.longs(m)?,
+        requested: rest.times(m)?,
+        arrivals: rest.times(m)?,
         parents: rest.words(n)?,
         sequences: rest.words(n)?,
         tips: rest.words(m)?,
@@ -104,8 +103,8 @@ impl<'a> Rest<'a> {
         Some(taken.map(|word| u32::from_le_bytes(word.try_into().expect("4 bytes"))).collect())
     }
 
-    fn longs(&mut self, number: usize) -> Option<Vec<u64>> {
+    fn times(&mut self, number: usize) -> Option<Vec<u64>> {
         let taken = self.take(8 * number)?.chunks_exact(8);
-        Some(taken.map(|long| u64::from_le_bytes(long.try_into().expect("8 bytes"))).collect())
+        Some(taken.map(|time| u64::from_le_bytes(time.try_into().expect("8 bytes"))).collect())
     }
 }

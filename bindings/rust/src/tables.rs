@@ -27,9 +27,6 @@ pub struct Parts {
     pub counts: Vec<u8>,
     /// The blocks' flags: bit 0 on the active chain, bits 1 and 2 the status.
     pub flags: Vec<u8>,
-    /// The map of the occupied slots: bit s mod 64 of word s div 64 is 1 where slot s is occupied, and
-    /// all other bits are 0.
-    pub map: Vec<u64>,
     /// The heads' tips, [`NONE_REF`] in an empty head.
     pub tips: Vec<u32>,
     /// The heads' anchors.
@@ -55,7 +52,6 @@ impl Default for Parts {
             sequences: vec![],
             counts: vec![],
             flags: vec![],
-            map: vec![],
             tips: vec![],
             tails: vec![],
             missing: vec![],
@@ -82,8 +78,7 @@ impl fmt::Debug for Parts {
 ///
 /// The tables own their memory and nothing but their calls writes it, so all that is proved holds of
 /// tables from [`Tables::new`], whatever is called. The buffers of tables fit one another, so none of
-/// their calls is refused by [`Refusal::Shape`]. Their map is true, that of adopted tables too, so
-/// [`Refusal::Full`] is given only where no slot is empty.
+/// their calls is refused by [`Refusal::Shape`].
 #[derive(Clone, PartialEq, Eq)]
 pub struct Tables {
     parts: Parts,
@@ -102,15 +97,15 @@ impl fmt::Debug for Tables {
     }
 }
 
-/// Calls the entry point with the twelve buffers, and more.
+/// Calls the entry point with the eleven buffers, and more.
 macro_rules! lend {
     ($parts:expr, $entry:ident $(, $more:expr)*) => {{
         let Parts {
-            hashes, parents, sequences, counts, flags, map,
+            hashes, parents, sequences, counts, flags,
             tips, tails, missing, requested, arrivals, connected, active: _,
         } = $parts;
         raw::$entry(
-            hashes, parents, sequences, counts, flags, map,
+            hashes, parents, sequences, counts, flags,
             tips, tails, missing, requested, arrivals, connected
             $(, $more)*
         )
@@ -134,7 +129,6 @@ impl Tables {
             sequences: vec![0; n],
             counts: vec![0; n],
             flags: vec![0; n],
-            map: vec![0; n.div_ceil(64)],
             tips: vec![0; m],
             tails: vec![0; m],
             missing: vec![0; 32 * m],
@@ -157,16 +151,12 @@ impl Tables {
     /// # Errors
     ///
     /// [`Refusal::Shape`] if the buffers do not fit one another, [`Refusal::Record`] if the record does
-    /// not name an active block that has no active child, or nothing where no block is active, and
-    /// [`Refusal::Map`] if the map is not that of the occupied slots, which a restart does not mend.
+    /// not name an active block that has no active child, or nothing where no block is active.
     pub fn from_parts(parts: Parts) -> Result<Tables, Refusal> {
         let tables = Tables { parts };
-        // The total is a call that refuses misfits alone and writes nothing.
-        tables.occupied_total()?;
-        if !tables.record_fits() {
-            return Err(Refusal::Record);
-        }
-        if tables.map_is_true() { Ok(tables) } else { Err(Refusal::Map) }
+        // The deadline is the call that refuses misfits alone and writes nothing.
+        tables.earliest_deadline(None)?;
+        if tables.record_fits() { Ok(tables) } else { Err(Refusal::Record) }
     }
 
     fn record_fits(&self) -> bool {
@@ -177,14 +167,6 @@ impl Tables {
         }
         flags.get(*active as usize).is_some_and(|&bits| is_active(bits))
             && !flags.iter().zip(parents).any(|(&bits, parent)| is_active(bits) && parent == active)
-    }
-
-    fn map_is_true(&self) -> bool {
-        let Parts { sequences, map, .. } = &self.parts;
-        let bits = |slots: &[u32]| {
-            slots.iter().rev().fold(0, |bits, &cell| bits << 1 | u64::from(cell != NONE_REF))
-        };
-        sequences.chunks(64).map(bits).eq(map.iter().copied())
     }
 
     /// What the tables hold.
@@ -284,27 +266,6 @@ impl Tables {
         let mut highest = [0];
         let blocks = accepted(lend!(&self.parts, station_under, slot.0, &mut highest))?;
         Ok(Under { blocks: blocks as usize, highest: Sequence(highest[0]) })
-    }
-
-    /// How many block slots are occupied.
-    ///
-    /// # Errors
-    ///
-    /// [`Refusal::Shape`] alone, which tables do not meet.
-    ///
-    /// ```
-    /// use station::{Refusal, Sequence, Tables};
-    ///
-    /// let mut tables = Tables::new(4, 2)?;
-    /// let pass = tables.admit(Sequence(5), &[0x0a; 32], &[0x09; 32], 1)?;
-    /// tables.admit(Sequence(7), &[0x0d; 32], &[0x0e; 32], 2)?;
-    /// assert_eq!(tables.occupied_total()?, 2);
-    /// tables.remove(pass)?;
-    /// assert_eq!(tables.occupied_total()?, 1);
-    /// # Ok::<(), Refusal>(())
-    /// ```
-    pub fn occupied_total(&self) -> Result<usize, Refusal> {
-        accepted(lend!(&self.parts, station_occupied_total)).map(|total| total as usize)
     }
 
     /// Fills the list with a record for each head in use and gives their number; records past the last
@@ -453,8 +414,7 @@ impl Tables {
     /// The lowest empty slot.
     #[must_use]
     pub fn next_free(&self) -> Option<BlockSlot> {
-        let Parts { sequences, map, .. } = &self.parts;
-        found(raw::station_next_free_index(sequences, map)).map(BlockSlot)
+        found(raw::station_next_free_index(&self.parts.sequences)).map(BlockSlot)
     }
 
     /// The count of the block in this slot.

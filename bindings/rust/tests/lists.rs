@@ -79,9 +79,6 @@ fn check(tables: &Tables, promoted: &HashMap<BlockSlot, [u8; 32]>) {
         let under = Under { blocks: listed.len(), highest };
         assert_eq!(tables.under(slot), Ok(under), "what hangs under {slot}");
     }
-    assert_eq!(tables.occupied_total(), Ok(tables.blocks().count()));
-    let mut slots = (0..tables.block_slots() as u32).map(BlockSlot);
-    assert_eq!(tables.next_free(), slots.find(|&slot| tables.get(slot).is_none()));
     for (slot, hash) in promoted {
         assert_eq!(tables.get(*slot).map(|block| block.hash), Some(*hash), "promoted: {slot}");
     }

@@ -80,20 +80,11 @@ fn walks() -> Result<(), Refusal> {
     Ok(())
 }
 
-/// These sequences, and their map.
-fn with_sequences(sequences: Vec<u32>, parts: Parts) -> Parts {
-    let mut map = vec![0; sequences.len().div_ceil(64)];
-    for slot in (0..sequences.len()).filter(|&slot| sequences[slot] != NONE_REF) {
-        map[slot / 64] |= 1 << (slot % 64);
-    }
-    Parts { sequences, map, ..parts }
-}
-
 /// Tables adopted with blocks of these parents; the block in slot i has sequence i.
 fn with_parents(parents: &[u32]) -> Result<Tables, Refusal> {
     let fresh = Tables::new(parents.len(), 2)?.into_parts();
     let sequences = (0..).take(parents.len()).collect();
-    Tables::from_parts(Parts { parents: parents.to_vec(), ..with_sequences(sequences, fresh) })
+    Tables::from_parts(Parts { parents: parents.to_vec(), sequences, ..fresh })
 }
 
 fn hanging(blocks: usize, highest: u32) -> Result<Under, Refusal> {
@@ -132,24 +123,6 @@ fn what_hangs_under_a_block_of_damaged_tables() -> Result<(), Refusal> {
         assert_eq!(most.under(BlockSlot(2)), hanging(1, 2), "{own}");
     }
     assert_eq!(with_parents(&[0])?.under(BlockSlot(0)), hanging(1, 0), "one level");
-    Ok(())
-}
-
-#[test]
-fn the_occupied_total() -> Result<(), Refusal> {
-    let mut tables = after_the_trial()?;
-    assert_eq!(tables.occupied_total()?, 3);
-    tables.remove(BlockSlot(3))?;
-    assert_eq!(tables.occupied_total()?, 2);
-    tables.fresh()?;
-    assert_eq!(tables.occupied_total()?, 0);
-    for n in [1, 63, 64, 65, 127, 128, MOST_BLOCKS] {
-        let mut full = with_parents(&vec![NONE_REF; n])?;
-        assert_eq!((full.occupied_total()?, full.next_free()), (n, None));
-        let last = BlockSlot(n as u32 - 1);
-        full.remove(last)?;
-        assert_eq!((full.occupied_total()?, full.next_free()), (n - 1, Some(last)));
-    }
     Ok(())
 }
 
@@ -233,13 +206,13 @@ fn records_past_the_last_head_stay() -> Result<(), Refusal> {
 /// k has anchor k and the flag byte k.
 fn with_tips(blocks: &[(u32, u8)], tips: &[u32]) -> Result<Tables, Refusal> {
     let fresh = Tables::new(blocks.len(), tips.len())?.into_parts();
-    let sequences = blocks.iter().map(|block| block.0).collect();
     Tables::from_parts(Parts {
         hashes: blocks.iter().flat_map(|block| hash(block.1)).collect(),
+        sequences: blocks.iter().map(|block| block.0).collect(),
         tips: tips.to_vec(),
         tails: (0..).take(tips.len()).collect(),
         connected: (0..).take(tips.len()).collect(),
-        ..with_sequences(sequences, fresh)
+        ..fresh
     })
 }
 

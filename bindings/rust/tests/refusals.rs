@@ -49,7 +49,7 @@ fn lengthen<T: Default>(buffer: &mut Vec<T>) {
 
 #[test]
 fn shape_1_whichever_buffer_does_not_fit() {
-    let changes: [Change; 24] = [
+    let changes: [Change; 22] = [
         |p| shorten(&mut p.hashes),
         |p| lengthen(&mut p.hashes),
         |p| shorten(&mut p.parents),
@@ -60,8 +60,6 @@ fn shape_1_whichever_buffer_does_not_fit() {
         |p| lengthen(&mut p.counts),
         |p| shorten(&mut p.flags),
         |p| lengthen(&mut p.flags),
-        |p| shorten(&mut p.map),
-        |p| lengthen(&mut p.map),
         |p| shorten(&mut p.tips),
         |p| lengthen(&mut p.tips),
         |p| shorten(&mut p.tails),
@@ -130,15 +128,10 @@ fn known_6() {
 
 #[test]
 fn full_7() {
-    // The map's last word has free bits past the last slot, or none at all.
-    for n in [1, 64, 65] {
-        let mut tables = Tables::new(n as usize, 2).unwrap();
-        for sequence in 0..n {
-            tables.admit(Sequence(sequence), &A, &A, 1).unwrap();
-        }
-        assert_eq!(refused_admit(&mut tables, n, &A, &ZERO), 7, "{n}");
-        assert_eq!(refused_admit(&mut tables, 0, &B, &ZERO), 7, "{n}");
-    }
+    let mut tables = Tables::new(1, 2).unwrap();
+    tables.admit(Sequence(5), &A, &ZERO, 1).unwrap();
+    assert_eq!(refused_admit(&mut tables, 6, &A, &ZERO), 7);
+    assert_eq!(refused_admit(&mut tables, 5, &B, &ZERO), 7);
 }
 
 #[test]
@@ -226,27 +219,9 @@ fn record_101() {
 }
 
 #[test]
-fn map_102() {
-    for n in [4, 64, 65] {
-        let mut whole = Tables::new(n, 2).unwrap();
-        whole.admit(Sequence(5), &A, &ZERO, 1).unwrap();
-        whole.admit(Sequence(6), &B, &A, 2).unwrap();
-        // Of an occupied slot, of an empty one, and past the last.
-        for bit in 0..64 * n.div_ceil(64) {
-            let mut parts = whole.clone().into_parts();
-            parts.map[bit / 64] ^= 1 << (bit % 64);
-            assert_eq!(Tables::from_parts(parts), Err(Refusal::Map), "bit {bit} of {n}");
-            let mut saved = whole.to_bytes();
-            saved[bit / 8] ^= 1 << (bit % 8);
-            assert_eq!(Tables::from_bytes(&saved), Err(Refusal::Map), "bit {bit} of {n}, saved");
-        }
-    }
-}
-
-#[test]
 fn numbers_and_words() {
     let numbers: Vec<u32> = Refusal::ALL.into_iter().map(Refusal::number).collect();
-    assert_eq!(numbers, (1..=10).chain(100..=102).collect::<Vec<u32>>());
+    assert_eq!(numbers, (1..=10).chain(100..=101).collect::<Vec<u32>>());
     for refusal in Refusal::ALL {
         assert_eq!(Refusal::from_number(refusal.number()), Some(refusal));
     }
@@ -254,7 +229,7 @@ fn numbers_and_words() {
     assert_eq!(Refusal::from_number(11), None);
 
     let words: HashSet<String> = Refusal::ALL.iter().map(Refusal::to_string).collect();
-    assert_eq!(words.len(), 13);
+    assert_eq!(words.len(), 12);
     let error: Box<dyn Error> = Refusal::Full.into();
-    assert_eq!(error.to_string(), "no block slot is free");
+    assert_eq!(error.to_string(), "no block slot is empty");
 }

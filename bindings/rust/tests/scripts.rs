@@ -67,7 +67,6 @@ fn answer(tables: &mut Option<Tables>, line: &str) -> Result<String, Refusal> {
             let under = tables.under(BlockSlot(number(slot)))?;
             format!("U {} {}\n", under.blocks, under.highest)
         }
-        ["O"] => format!("O {}\n", tables.occupied_total()?),
         ["V"] => tables.screen().map(|row| shown(&row)).collect(),
         ["T", now, retry] => match tables.timer(number(now), Some(number(retry)))? {
             Some(due) => format!("T {} {} {:02x}\n", due.head, due.sequence, due.hash[0]),

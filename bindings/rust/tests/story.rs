@@ -115,6 +115,5 @@ fn the_active_head_is_never_evicted_by_a_restart_with_fewer_heads() -> Result<()
     tables.restart(10)?;
     assert_eq!(tips(&tables), [0, 2].map(BlockSlot));
     assert_eq!(tables.get(BlockSlot(1)), None);
-    assert_eq!((tables.occupied_total()?, tables.next_free()), (2, Some(BlockSlot(1))));
     Ok(())
 }

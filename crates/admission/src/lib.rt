@@ -17,7 +17,6 @@ pub fn on_block_admitted(
     sequences: &mut [u32],
     counts: &mut [u8],
     flags: &mut [u8],
-    map: &mut [u64],
     tips: &mut [u32],
     tails: &mut [u32],
     missing: &mut [u8],
@@ -30,17 +29,17 @@ pub fn on_block_admitted(
     arrival: u64,
     active: BlockSlot,
 )
-    ensures { after hashes parents sequences counts flags map tips tails missing requested arrivals connected
-        ≡ admitted (before hashes parents sequences counts flags map tips tails missing requested arrivals connected) block.0
+    ensures { after hashes parents sequences counts flags tips tails missing requested arrivals connected
+        ≡ admitted (before hashes parents sequences counts flags tips tails missing requested arrivals connected) block.0
         (slot_found parent) previous.now arrival active.0 }
 {
     adjust_head_ref_count(sequences, counts, block, 1);
     place_head(
-        hashes, parents, sequences, counts, flags, map, tips, tails, missing, requested, arrivals,
+        hashes, parents, sequences, counts, flags, tips, tails, missing, requested, arrivals,
         connected, block, parent, previous, arrival, active,
     );
     resolve_pending_tails(
-        hashes, parents, sequences, counts, flags, map, tips, tails, missing, requested, arrivals,
+        hashes, parents, sequences, counts, flags, tips, tails, missing, requested, arrivals,
         connected, block, previous,
     );
 }

@@ -12,7 +12,7 @@ use Rattle.rules.specs.Hashes.{hash_length, zero_hash, hash_at, same_hash}
 use Rattle.rules.specs.Records.{NONE, Blocks, Tables}
 use Rattle.rules.specs.BlockTable.{find, next_free}
 use Rattle.rules.specs.Answers.{refused, slot}
-use Rattle.rules.specs.Calls.{State, Stepped, keeping, answering, refuse, shaped, admit_at, admit_to, admit, Does}
+use Rattle.rules.specs.Calls.{State, Stepped, keeping, answering, refuse, shaped, admit_at, admit, Does}
 use Rattle.rules.proofs.Splits.{split, option?, and-true}
 use Rattle.admit_reply.proofs.OwnHash.{own-hash}
 
@@ -26,11 +26,11 @@ module _ (s : State) (sequence : ℕ) (hash previous : List ℕ) (arrival : ℕ)
   abbrev b : Blocks
   b = s.tables.blocks
 
-  -- refused, or put in the lowest free slot
+  -- refused, or put in the lowest empty slot
   admit? {ℓ} : {A : Type ℓ} → ((k : ℕ) → step ≡ refuse s k → A)
       → ((i : ℕ) → length hash ≡ hash_length → length previous ≡ hash_length → step ≡ answering (keeping s (admit_at s i sequence hash previous arrival)) (slot i) → A)
       → A
-  unfolding admit admit_to
+  unfolding admit
   admit? f g = split (shaped s.tables)
       (λ e1. split (eqb (length hash) hash_length && eqb (length previous) hash_length)
       (λ e2. split (eqb sequence NONE)
@@ -39,11 +39,11 @@ module _ (s : State) (sequence : ℕ) (hash previous : List ℕ) (arrival : ℕ)
       (λ e4. f 5 (rw (e1, e2, e3, e4)))
       (λ e4. split (is_some (find b.hashes b.sequences sequence hash))
       (λ e5. f 6 (rw (e1, e2, e3, e4, e5)))
-      (λ e5. option? (next_free b.sequences b.map)
-      (λ e6. f 7 (rw (e1, e2, e3, e4, e5, e6, admit_to)))
+      (λ e5. option? (next_free b.sequences)
+      (λ e6. f 7 (rw (e1, e2, e3, e4, e5, e6, admit)))
       (λ i e6.
       let l = and-true (eqb (length hash) hash_length) (eqb (length previous) hash_length) e2 in
-      g i (eqb-true (length hash) hash_length l.0) (eqb-true (length previous) hash_length l.1) (rw (e1, e2, e3, e4, e5, e6, admit_to)))))))
+      g i (eqb-true (length hash) hash_length l.0) (eqb-true (length previous) hash_length l.1) (rw (e1, e2, e3, e4, e5, e6, admit)))))))
       (λ e2. f 2 (rw (e1, e2))))
       (λ e1. f 1 (rw e1))
 

@@ -16,7 +16,6 @@ pub fn admit(
     sequences: &mut [u32],
     counts: &mut [u8],
     flags: &mut [u8],
-    map: &mut [u64],
     tips: &mut [u32],
     tails: &mut [u32],
     missing: &mut [u8],
@@ -30,13 +29,13 @@ pub fn admit(
     arrival: u64,
 ) -> Admitted
     ensures { Does (admitted_said result)
-        (after hashes parents sequences counts flags map tips tails missing requested arrivals connected)
+        (after hashes parents sequences counts flags tips tails missing requested arrivals connected)
         (admit_rule
-        (state_of (before hashes parents sequences counts flags map tips tails missing requested arrivals connected) active.0)
+        (state_of (before hashes parents sequences counts flags tips tails missing requested arrivals connected) active.0)
         sequence.0 hash.now previous.now arrival) }
 {
     match reply(
-        hashes, parents, sequences, counts, flags, map, tips, tails, missing, requested, arrivals,
+        hashes, parents, sequences, counts, flags, tips, tails, missing, requested, arrivals,
         connected, sequence, hash, previous,
     ) {
         Admitted::Refused(why) => Admitted::Refused(why),
@@ -47,7 +46,6 @@ pub fn admit(
                 sequences,
                 counts,
                 flags,
-                map,
                 tips,
                 tails,
                 missing,

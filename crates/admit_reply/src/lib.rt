@@ -20,14 +20,13 @@ fn is_known(hashes: &[u8], sequences: &[u32], sequence: Sequence, hash: [u8; 32]
     }
 }
 
-// The lowest free slot, which the block is to get, or the first refusal that applies.
+// The lowest empty slot, which the block is to get, or the first refusal that applies.
 pub fn reply(
     hashes: &[u8],
     parents: &[u32],
     sequences: &[u32],
     counts: &[u8],
     flags: &[u8],
-    map: &[u64],
     tips: &[u32],
     tails: &[u32],
     missing: &[u8],
@@ -40,11 +39,11 @@ pub fn reply(
 ) -> Admitted
     ensures { (a arrival : ℕ)
         → admitted_said result
-        ≡ (admit_rule (state_of (before hashes parents sequences counts flags map tips tails missing requested arrivals connected) a)
+        ≡ (admit_rule (state_of (before hashes parents sequences counts flags tips tails missing requested arrivals connected) a)
         sequence.0 hash.now previous.now arrival).answer }
 {
     if !is_shaped(
-        hashes, parents, sequences, counts, flags, map, tips, tails, missing, requested, arrivals,
+        hashes, parents, sequences, counts, flags, tips, tails, missing, requested, arrivals,
         connected,
     ) {
         return Admitted::Refused(Refusal::Shape);
@@ -65,7 +64,7 @@ pub fn reply(
     if is_known(hashes, sequences, sequence, own) {
         return Admitted::Refused(Refusal::Known);
     }
-    match next_free_index(sequences, map) {
+    match next_free_index(sequences) {
         Found::Nothing => Admitted::Refused(Refusal::Full),
         Found::At(slot) => Admitted::Slot(slot),
     }

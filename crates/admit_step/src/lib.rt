@@ -26,7 +26,6 @@ pub fn admit_at(
     sequences: &mut [u32],
     counts: &mut [u8],
     flags: &mut [u8],
-    map: &mut [u64],
     tips: &mut [u32],
     tails: &mut [u32],
     missing: &mut [u8],
@@ -40,8 +39,8 @@ pub fn admit_at(
     previous: [u8; 32],
     arrival: u64,
 )
-    ensures { after hashes parents sequences counts flags map tips tails missing requested arrivals connected
-        ≡ admit_at (state_of (before hashes parents sequences counts flags map tips tails missing requested arrivals connected) active.0)
+    ensures { after hashes parents sequences counts flags tips tails missing requested arrivals connected
+        ≡ admit_at (state_of (before hashes parents sequences counts flags tips tails missing requested arrivals connected) active.0)
         slot.0 sequence.0 own previous arrival }
 {
     let parent = find_parent(hashes, sequences, sequence, previous);
@@ -53,13 +52,13 @@ pub fn admit_at(
         count: 0,
         flags: 0,
     };
-    insert_at(hashes, parents, sequences, counts, flags, map, slot, block);
+    insert_at(hashes, parents, sequences, counts, flags, slot, block);
     on_block_admitted(
-        hashes, parents, sequences, counts, flags, map, tips, tails, missing, requested, arrivals,
+        hashes, parents, sequences, counts, flags, tips, tails, missing, requested, arrivals,
         connected, slot, parent, &previous, arrival, active,
     );
     refresh_tails(
-        hashes, parents, sequences, counts, flags, map, tips, tails, missing, requested, arrivals,
+        hashes, parents, sequences, counts, flags, tips, tails, missing, requested, arrivals,
         connected,
     );
 }

@@ -7,7 +7,6 @@ ghost use Rattle.rules.specs.Answers.{insertion_made};
 use blocks::{is_occupied, next_free_index};
 use cells::{put_byte, put_hash, put_word, slots};
 use rules::{Block, BlockSlot, Found, Inserted, Sequence};
-use slot_map::put_bit;
 
 fn put_block(
     hashes: &mut [u8],
@@ -15,12 +14,11 @@ fn put_block(
     sequences: &mut [u32],
     counts: &mut [u8],
     flags: &mut [u8],
-    map: &mut [u64],
     slot: BlockSlot,
     block: Block,
 )
-    ensures { blocks_after hashes parents sequences counts flags map
-        ≡ put_block (blocks_before hashes parents sequences counts flags map) slot.0 block }
+    ensures { blocks_after hashes parents sequences counts flags
+        ≡ put_block (blocks_before hashes parents sequences counts flags) slot.0 block }
 {
     let hash = block.hash;
     put_hash(hashes, slot.0, hash);
@@ -28,7 +26,6 @@ fn put_block(
     put_word(sequences, slot.0, block.sequence.0);
     put_byte(counts, slot.0, block.count);
     put_byte(flags, slot.0, block.flags);
-    put_bit(map, slot, block.sequence.0 != Sequence::NONE_REF.0);
 }
 
 // Writes the block into the slot, be it occupied or empty; beyond n nothing changes.
@@ -38,38 +35,36 @@ pub fn insert_at(
     sequences: &mut [u32],
     counts: &mut [u8],
     flags: &mut [u8],
-    map: &mut [u64],
     slot: BlockSlot,
     block: Block,
 )
-    ensures { blocks_after hashes parents sequences counts flags map
-        ≡ insert_at (blocks_before hashes parents sequences counts flags map) slot.0 block }
+    ensures { blocks_after hashes parents sequences counts flags
+        ≡ insert_at (blocks_before hashes parents sequences counts flags) slot.0 block }
 {
     if slot.0 < slots(sequences) {
-        put_block(hashes, parents, sequences, counts, flags, map, slot, block);
+        put_block(hashes, parents, sequences, counts, flags, slot, block);
     }
 }
 
-// Writes the block into the lowest free slot, which it gives; with the reserved sequence, or where none is free, nothing changes.
+// Writes the block into the lowest empty slot, which it gives; with the reserved sequence or in a full table nothing changes.
 pub fn insert(
     hashes: &mut [u8],
     parents: &mut [u32],
     sequences: &mut [u32],
     counts: &mut [u8],
     flags: &mut [u8],
-    map: &mut [u64],
     block: Block,
 ) -> Inserted
-    ensures { (insertion_made result ≡ insertion sequences.old map.old block)
-        × (blocks_after hashes parents sequences counts flags map ≡ insert_rule (blocks_before hashes parents sequences counts flags map) block) }
+    ensures { (insertion_made result ≡ insertion sequences.old block)
+        × (blocks_after hashes parents sequences counts flags ≡ insert_rule (blocks_before hashes parents sequences counts flags) block) }
 {
     if block.sequence.0 == Sequence::NONE_REF.0 {
         return Inserted::ReservedSequence;
     }
-    let Found::At(slot) = next_free_index(sequences, map) else {
+    let Found::At(slot) = next_free_index(sequences) else {
         return Inserted::Full;
     };
-    insert_at(hashes, parents, sequences, counts, flags, map, slot, block);
+    insert_at(hashes, parents, sequences, counts, flags, slot, block);
     Inserted::At(slot)
 }
 
@@ -80,12 +75,11 @@ pub fn delete(
     sequences: &mut [u32],
     counts: &mut [u8],
     flags: &mut [u8],
-    map: &mut [u64],
     slot: BlockSlot,
 ) -> bool
     ensures { (result ≡ occupied sequences.old slot.0)
-        × (blocks_after hashes parents sequences counts flags map
-        ≡ delete_rule (blocks_before hashes parents sequences counts flags map) slot.0) }
+        × (blocks_after hashes parents sequences counts flags
+        ≡ delete_rule (blocks_before hashes parents sequences counts flags) slot.0) }
 {
     if !is_occupied(sequences, slot) {
         return false;
@@ -96,7 +90,6 @@ pub fn delete(
         sequences,
         counts,
         flags,
-        map,
         slot,
         Block::empty(),
     );

@@ -1,6 +1,6 @@
 // What a block holds: the record, its count and its status.
-ghost use Rattle.std.specs.Prelude.{◌≡◌, List, ℕ};
-ghost use Rattle.rules.specs.Records.{status_number, status_of, blocks_of};
+ghost use Rattle.std.specs.Prelude.{◌≡◌};
+ghost use Rattle.rules.specs.Records.{status_number, status_of, blocks_before};
 ghost use Rattle.rules.specs.BlockTable.{get as get_rule, head_ref_count, status_at};
 ghost use Rattle.rules.specs.Answers.{got_block, count_got, status_got};
 
@@ -8,7 +8,7 @@ use blocks::is_occupied;
 use cells::{byte_at, hash_at, word_at};
 use rules::{Block, BlockSlot, BlockStatus, Counted, Got, Sequence, StatusFound};
 
-// The block in a slot; nothing for an empty or out-of-range slot. A block is what it is whatever the map says of its slot.
+// The block in a slot; nothing for an empty or out-of-range slot.
 pub fn get(
     hashes: &[u8],
     parents: &[u32],
@@ -17,12 +17,7 @@ pub fn get(
     flags: &[u8],
     slot: BlockSlot,
 ) -> Got
-    ensures { (map : List ℕ)
-        → result
-        ≡ got_block
-        (get_rule
-        (blocks_of hashes.now parents.now sequences.now counts.now flags.now map)
-        slot.0) }
+    ensures { result ≡ got_block (get_rule (blocks_before hashes parents sequences counts flags) slot.0) }
 {
     if !is_occupied(sequences, slot) {
         return Got {

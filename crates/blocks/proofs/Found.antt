@@ -1,18 +1,23 @@
 -- A block is looked for only where the sequence fits.
 use mathlib.Core.Path.{◌≡◌, refl, ◌∙◌}
 use mathlib.Core.Logic.{◌≢◌}
-use mathlib.Core.Bool.{false}
+use mathlib.Core.Bool.{false, not}
 use mathlib.Core.List.{List}
 use mathlib.Core.Option.{none}
 use Prim.Native.Nat.{ℕ}
 use native.Mathlib.Omega.{arith}
 use borrow.Author.Tests.{eq-eqb, ne_eqb}
+use lib.Dec.{eqb}
 use Rattle.rules.specs.Common.{lowest}
 use Rattle.rules.specs.Hashes.{hash_at, same_hash}
 use Rattle.rules.specs.Records.{NONE, sequence_at, occupied}
 use Rattle.rules.specs.BlockTable.{is_block}
 use Rattle.rules.proofs.Splits.{split, same?}
 use Rattle.rules.proofs.Search.{lowest-none, lowest-skips}
+
+pub free : (sequences : List ℕ) (i : ℕ) → not (occupied sequences i) ≡ eqb (sequence_at sequences i) NONE
+unfolding occupied
+free sequences i = split (eqb (sequence_at sequences i) NONE) (λ t. rw t) (λ f. rw f)
 
 module _ (hashes sequences : List ℕ) (sequence : ℕ) (hash : List ℕ) where
   pub other : (i : ℕ) → sequence_at sequences i ≢ sequence → is_block hashes sequences sequence hash i ≡ false

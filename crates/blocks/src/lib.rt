@@ -2,12 +2,11 @@
 // of the caller. What a block holds and what changes it is in the crates above; its mark_subtree is `subtree`.
 ghost use Rattle.std.specs.Prelude.{◌≡◌};
 ghost use Rattle.rules.specs.Records.{occupied, active};
-ghost use Rattle.rules.specs.BlockTable.{find as find_rule, is_free, next_free, find_parent, walks_to_active_chain};
+ghost use Rattle.rules.specs.BlockTable.{find as find_rule, next_free, find_parent, walks_to_active_chain};
 ghost use Rattle.rules.specs.Answers.{slot_found};
 
 use cells::{byte_at, next_at, same_hash_at, slots, word_at};
 use rules::{BlockSlot, Found, Sequence};
-use slot_map::first_zero;
 
 // Whether the slot holds a block: its sequence is not NONE_REF. A slot out of range is empty.
 pub fn is_occupied(sequences: &[u32], slot: BlockSlot) -> bool
@@ -42,25 +41,13 @@ pub fn find(hashes: &[u8], sequences: &[u32], sequence: Sequence, hash: [u8; 32]
     Found::Nothing
 }
 
-// Whether the slot is one of the table, and empty by its sequence.
-fn is_free(sequences: &[u32], slot: BlockSlot) -> bool
-    ensures { result ≡ is_free sequences.now slot.0 }
+// The lowest empty slot, or none where all are occupied.
+pub fn next_free_index(sequences: &[u32]) -> Found
+    ensures { slot_found result ≡ next_free sequences.now }
 {
-    if slot.0 < slots(sequences) {
-        return !is_occupied(sequences, slot);
-    }
-    false
-}
-
-// The lowest free slot by the map; none where no bit is zero, or the first that is stands past the last slot or for an occupied one.
-pub fn next_free_index(sequences: &[u32], map: &[u64]) -> Found
-    ensures { slot_found result ≡ next_free sequences.now map.now }
-{
-    let Found::At(slot) = first_zero(map) else {
-        return Found::Nothing;
-    };
-    if is_free(sequences, slot) {
-        return Found::At(slot);
+    let i = next_at(sequences, 0, Sequence::NONE_REF.0);
+    if i < slots(sequences) {
+        return Found::At(BlockSlot(i));
     }
     Found::Nothing
 }

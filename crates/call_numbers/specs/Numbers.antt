@@ -12,9 +12,9 @@ use Rattle.rules.specs.Hashes.{put_hash}
 use Rattle.rules.specs.declared.HeadRow.{HeadRow}
 use Rattle.rules.specs.declared.Screened.{Screened}
 use Rattle.rules.specs.declared.Screened.TheVariants.{Rows, Refused}
-use Rattle.rules.specs.Answers.{Answer, refused, done, slot, freed, hangs, total, shown, request, none_due, due_at, never_due, refusal_number}
+use Rattle.rules.specs.Answers.{Answer, refused, done, slot, freed, hangs, shown, request, none_due, due_at, never_due, refusal_number}
 
--- a refusal times 2^32, or the slot, the number of blocks freed, hanging or in all, that of records shown, the head asked for (NONE_REF is none
+-- a refusal times 2^32, or the slot, the number of blocks freed or hanging, that of records shown, the head asked for (NONE_REF is none
 -- due), and 1 where there is a deadline
 abbrev pub answer_number : (answer : Answer) → ℕ
 answer_number (refused number) = number * 4294967296
@@ -22,7 +22,6 @@ answer_number done = 0
 answer_number (slot i) = i
 answer_number (freed blocks) = blocks
 answer_number (hangs blocks highest) = blocks
-answer_number (total blocks) = blocks
 answer_number (shown rows) = length rows
 answer_number (request head claims missing) = head
 answer_number none_due = NONE
@@ -37,7 +36,6 @@ claimed_to done words = words
 claimed_to (slot i) words = words
 claimed_to (freed blocks) words = words
 claimed_to (hangs blocks highest) words = words
-claimed_to (total blocks) words = words
 claimed_to (shown rows) words = words
 claimed_to none_due words = words
 claimed_to (due_at time) words = words
@@ -51,7 +49,6 @@ wanted_to done bytes = bytes
 wanted_to (slot i) bytes = bytes
 wanted_to (freed blocks) bytes = bytes
 wanted_to (hangs blocks highest) bytes = bytes
-wanted_to (total blocks) bytes = bytes
 wanted_to (shown rows) bytes = bytes
 wanted_to none_due bytes = bytes
 wanted_to (due_at time) bytes = bytes
@@ -65,7 +62,6 @@ time_to done times = times
 time_to (slot i) times = times
 time_to (freed blocks) times = times
 time_to (hangs blocks highest) times = times
-time_to (total blocks) times = times
 time_to (shown rows) times = times
 time_to (request head claims missing) times = times
 time_to none_due times = times
@@ -78,7 +74,6 @@ highest_to (refused number) words = words
 highest_to done words = words
 highest_to (slot i) words = words
 highest_to (freed blocks) words = words
-highest_to (total blocks) words = words
 highest_to (shown rows) words = words
 highest_to (request head claims missing) words = words
 highest_to none_due words = words
@@ -98,7 +93,6 @@ rows_to done list = list
 rows_to (slot i) list = list
 rows_to (freed blocks) list = list
 rows_to (hangs blocks highest) list = list
-rows_to (total blocks) list = list
 rows_to (request head claims missing) list = list
 rows_to none_due list = list
 rows_to (due_at time) list = list

@@ -1,13 +1,12 @@
 // The numbers that stand for the answers of the calls.
 ghost use Rattle.std.specs.Prelude.{◌≡◌, ◌*◌};
-ghost use Rattle.rules.specs.Answers.{refusal_number, outcome_said, admitted_said, removed_said, hanging_said, total_said, timed_said, deadline_said, span_given};
+ghost use Rattle.rules.specs.Answers.{refusal_number, outcome_said, admitted_said, removed_said, hanging_said, timed_said, deadline_said, span_given};
 ghost use Rattle.call_numbers.specs.Numbers.{answer_number, screened_number, claimed_to, wanted_to, time_to, highest_to, span_from};
 
 use cells::{put_hash, put_time, put_word};
 use query_numbers::refusal_number;
 use rules::{
     Admitted, DeadlineAnswer, Hanging, HeadSlot, Outcome, Refusal, Removed, Screened, Span, Timed,
-    Total,
 };
 
 fn refusal(why: Refusal) -> u64
@@ -57,16 +56,6 @@ pub fn hanging_number(hanging: Hanging, highest: &mut [u32]) -> u64
             blocks as u64
         }
         Hanging::Refused(why) => refusal(why),
-    }
-}
-
-// How many slots are occupied, or the refusal in the upper half.
-pub fn total_number(total: Total) -> u64
-    ensures { result ≡ answer_number (total_said total) }
-{
-    match total {
-        Total::Blocks(blocks) => blocks as u64,
-        Total::Refused(why) => refusal(why),
     }
 }
 

@@ -9,7 +9,7 @@ use Rattle.rules.proofs.Kept.Shaped.{shaped-shape}
 module _ (t : Tables) (e : shaped t ≡ true) where
   pub blocks-empty : blocks_emptied t.blocks ≡ empty_blocks (length t.blocks.parents)
   unfolding empty_blocks
-  blocks-empty = let s = (shaped-shape t e).0 in rw (s.hashed, s.parents, s.counts, s.flagged, s.mapped)
+  blocks-empty = let s = (shaped-shape t e).0 in rw (s.hashed, s.parents, s.counts, s.flagged)
 
   pub heads-empty : heads_emptied t.heads ≡ empty_heads (length t.heads.tips)
   unfolding empty_heads

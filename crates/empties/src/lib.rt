@@ -25,12 +25,12 @@ fn fill_words(words: &mut [u32], value: u32)
     }
 }
 
-fn fill_wide_words(words: &mut [u64], value: u64)
-    ensures { words.new ≡ replicate (length words.old) value }
+fn fill_times(times: &mut [u64], value: u64)
+    ensures { times.new ≡ replicate (length times.old) value }
 {
     let mut i: usize = 0;
-    while i < words.len() {
-        words[i] = value;
+    while i < times.len() {
+        times[i] = value;
         i += 1;
     }
 }
@@ -50,8 +50,8 @@ pub fn empty_heads(
     fill_words(tips, BlockSlot::NONE_REF.0);
     fill_words(tails, BlockSlot::NONE_REF.0);
     fill_bytes(missing, 0);
-    fill_wide_words(requested, 0);
-    fill_wide_words(arrivals, 0);
+    fill_times(requested, 0);
+    fill_times(arrivals, 0);
     fill_bytes(connected, 0);
 }
 
@@ -62,15 +62,13 @@ pub fn empty_blocks(
     sequences: &mut [u32],
     counts: &mut [u8],
     flags: &mut [u8],
-    map: &mut [u64],
 )
-    ensures { blocks_after hashes parents sequences counts flags map
-        ≡ blocks_emptied (blocks_before hashes parents sequences counts flags map) }
+    ensures { blocks_after hashes parents sequences counts flags
+        ≡ blocks_emptied (blocks_before hashes parents sequences counts flags) }
 {
     fill_bytes(hashes, 0);
     fill_words(parents, BlockSlot::NONE_REF.0);
     fill_words(sequences, Sequence::NONE_REF.0);
     fill_bytes(counts, 0);
     fill_bytes(flags, 0);
-    fill_wide_words(map, 0);
 }

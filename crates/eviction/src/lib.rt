@@ -100,11 +100,10 @@ fn visit(
     sequences: &mut [u32],
     counts: &mut [u8],
     flags: &mut [u8],
-    map: &mut [u64],
     slot: BlockSlot,
 ) -> Found
-    ensures { Visits (blocks_before hashes parents sequences counts flags map) slot.0 (slot_found result)
-        (blocks_after hashes parents sequences counts flags map) }
+    ensures { Visits (blocks_before hashes parents sequences counts flags) slot.0 (slot_found result)
+        (blocks_after hashes parents sequences counts flags) }
 {
     let parent = BlockSlot(word_at(parents, slot.0));
     let kept = is_on_active_chain(flags, slot);
@@ -117,7 +116,7 @@ fn visit(
             if count != 0 {
                 return Found::Nothing;
             }
-            delete(hashes, parents, sequences, counts, flags, map, slot);
+            delete(hashes, parents, sequences, counts, flags, slot);
             Found::At(parent)
         }
     }
@@ -130,11 +129,10 @@ fn evict_from(
     sequences: &mut [u32],
     counts: &mut [u8],
     flags: &mut [u8],
-    map: &mut [u64],
     tip: BlockSlot,
 )
-    ensures { blocks_after hashes parents sequences counts flags map
-        ≡ evict_from (slots_of sequences.old) (blocks_before hashes parents sequences counts flags map) tip.0 }
+    ensures { blocks_after hashes parents sequences counts flags
+        ≡ evict_from (slots_of sequences.old) (blocks_before hashes parents sequences counts flags) tip.0 }
 {
     let n = slots(sequences);
     let mut current = tip.0;
@@ -146,7 +144,6 @@ fn evict_from(
             sequences,
             counts,
             flags,
-            map,
             BlockSlot(current),
         ) {
             Found::Nothing => {
@@ -167,7 +164,6 @@ fn evict(
     sequences: &mut [u32],
     counts: &mut [u8],
     flags: &mut [u8],
-    map: &mut [u64],
     tips: &mut [u32],
     tails: &mut [u32],
     missing: &mut [u8],
@@ -176,11 +172,11 @@ fn evict(
     connected: &mut [u8],
     head: HeadSlot,
 )
-    ensures { after hashes parents sequences counts flags map tips tails missing requested arrivals connected
-        ≡ evict_rule (before hashes parents sequences counts flags map tips tails missing requested arrivals connected) head.0 }
+    ensures { after hashes parents sequences counts flags tips tails missing requested arrivals connected
+        ≡ evict_rule (before hashes parents sequences counts flags tips tails missing requested arrivals connected) head.0 }
 {
     let tip = BlockSlot(word_at(tips, head.0));
-    evict_from(hashes, parents, sequences, counts, flags, map, tip);
+    evict_from(hashes, parents, sequences, counts, flags, tip);
     put_head(
         tips,
         tails,
@@ -201,7 +197,6 @@ pub fn evict_one(
     sequences: &mut [u32],
     counts: &mut [u8],
     flags: &mut [u8],
-    map: &mut [u64],
     tips: &mut [u32],
     tails: &mut [u32],
     missing: &mut [u8],
@@ -210,14 +205,14 @@ pub fn evict_one(
     connected: &mut [u8],
     active: BlockSlot,
 )
-    ensures { after hashes parents sequences counts flags map tips tails missing requested arrivals connected
-        ≡ evict_one (before hashes parents sequences counts flags map tips tails missing requested arrivals connected) active.0 }
+    ensures { after hashes parents sequences counts flags tips tails missing requested arrivals connected
+        ≡ evict_one (before hashes parents sequences counts flags tips tails missing requested arrivals connected) active.0 }
 {
     match select_eviction_victim(hashes, sequences, tips, active) {
         FoundHead::Nothing => {}
         FoundHead::At(head) => evict(
-            hashes, parents, sequences, counts, flags, map, tips, tails, missing, requested,
-            arrivals, connected, head,
+            hashes, parents, sequences, counts, flags, tips, tails, missing, requested, arrivals,
+            connected, head,
         ),
     }
 }

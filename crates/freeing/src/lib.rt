@@ -13,11 +13,10 @@ pub fn free_all(
     sequences: &mut [u32],
     counts: &mut [u8],
     flags: &mut [u8],
-    map: &mut [u64],
     deleted: &[u32],
 )
-    ensures { blocks_after hashes parents sequences counts flags map
-        ≡ free_all deleted.now (blocks_before hashes parents sequences counts flags map) }
+    ensures { blocks_after hashes parents sequences counts flags
+        ≡ free_all deleted.now (blocks_before hashes parents sequences counts flags) }
 {
     let mut k: usize = 0;
     while k < deleted.len() {
@@ -27,7 +26,6 @@ pub fn free_all(
             sequences,
             counts,
             flags,
-            map,
             BlockSlot(deleted[k]),
         );
         k += 1;

@@ -15,7 +15,6 @@ pub fn fresh(
     sequences: &mut [u32],
     counts: &mut [u8],
     flags: &mut [u8],
-    map: &mut [u64],
     tips: &mut [u32],
     tails: &mut [u32],
     missing: &mut [u8],
@@ -25,12 +24,12 @@ pub fn fresh(
     active: BlockSlot,
 ) -> Recorded
     ensures { Sets (outcome_said result.outcome) result.active.0
-        (after hashes parents sequences counts flags map tips tails missing requested arrivals connected)
+        (after hashes parents sequences counts flags tips tails missing requested arrivals connected)
         (fresh_rule
-        (state_of (before hashes parents sequences counts flags map tips tails missing requested arrivals connected) active.0)) }
+        (state_of (before hashes parents sequences counts flags tips tails missing requested arrivals connected) active.0)) }
 {
     if !is_shaped(
-        hashes, parents, sequences, counts, flags, map, tips, tails, missing, requested, arrivals,
+        hashes, parents, sequences, counts, flags, tips, tails, missing, requested, arrivals,
         connected,
     ) {
         return Recorded {
@@ -38,7 +37,7 @@ pub fn fresh(
             active,
         };
     }
-    empty_blocks(hashes, parents, sequences, counts, flags, map);
+    empty_blocks(hashes, parents, sequences, counts, flags);
     empty_heads(tips, tails, missing, requested, arrivals, connected);
     Recorded {
         outcome: Outcome::Done,

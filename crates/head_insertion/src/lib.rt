@@ -55,7 +55,6 @@ fn seat_head(
     sequences: &[u32],
     counts: &[u8],
     flags: &[u8],
-    map: &[u64],
     tips: &mut [u32],
     tails: &mut [u32],
     missing: &mut [u8],
@@ -67,8 +66,8 @@ fn seat_head(
     previous: &[u8],
     arrival: u64,
 )
-    ensures { after hashes parents sequences counts flags map tips tails missing requested arrivals connected
-        ≡ seat_head (before hashes parents sequences counts flags map tips tails missing requested arrivals connected) tip.0 arriving.0
+    ensures { after hashes parents sequences counts flags tips tails missing requested arrivals connected
+        ≡ seat_head (before hashes parents sequences counts flags tips tails missing requested arrivals connected) tip.0 arriving.0
         previous.now arrival }
 {
     match first_empty(tips) {
@@ -87,7 +86,6 @@ fn make_room(
     sequences: &mut [u32],
     counts: &mut [u8],
     flags: &mut [u8],
-    map: &mut [u64],
     tips: &mut [u32],
     tails: &mut [u32],
     missing: &mut [u8],
@@ -96,13 +94,13 @@ fn make_room(
     connected: &mut [u8],
     active: BlockSlot,
 )
-    ensures { after hashes parents sequences counts flags map tips tails missing requested arrivals connected
-        ≡ make_room (before hashes parents sequences counts flags map tips tails missing requested arrivals connected) active.0 }
+    ensures { after hashes parents sequences counts flags tips tails missing requested arrivals connected
+        ≡ make_room (before hashes parents sequences counts flags tips tails missing requested arrivals connected) active.0 }
 {
     match first_empty(tips) {
         FoundHead::Nothing => evict_one(
-            hashes, parents, sequences, counts, flags, map, tips, tails, missing, requested,
-            arrivals, connected, active,
+            hashes, parents, sequences, counts, flags, tips, tails, missing, requested, arrivals,
+            connected, active,
         ),
         FoundHead::At(_) => {}
     }
@@ -116,7 +114,6 @@ pub fn insert_head(
     sequences: &mut [u32],
     counts: &mut [u8],
     flags: &mut [u8],
-    map: &mut [u64],
     tips: &mut [u32],
     tails: &mut [u32],
     missing: &mut [u8],
@@ -129,16 +126,16 @@ pub fn insert_head(
     arrival: u64,
     active: BlockSlot,
 )
-    ensures { after hashes parents sequences counts flags map tips tails missing requested arrivals connected
-        ≡ insert_head (before hashes parents sequences counts flags map tips tails missing requested arrivals connected) tip.0 arriving.0
+    ensures { after hashes parents sequences counts flags tips tails missing requested arrivals connected
+        ≡ insert_head (before hashes parents sequences counts flags tips tails missing requested arrivals connected) tip.0 arriving.0
         previous.now arrival active.0 }
 {
     make_room(
-        hashes, parents, sequences, counts, flags, map, tips, tails, missing, requested, arrivals,
+        hashes, parents, sequences, counts, flags, tips, tails, missing, requested, arrivals,
         connected, active,
     );
     seat_head(
-        hashes, parents, sequences, counts, flags, map, tips, tails, missing, requested, arrivals,
+        hashes, parents, sequences, counts, flags, tips, tails, missing, requested, arrivals,
         connected, tip, arriving, previous, arrival,
     );
 }

@@ -19,7 +19,6 @@ fn move_up(
     sequences: &[u32],
     counts: &[u8],
     flags: &[u8],
-    map: &[u64],
     tips: &mut [u32],
     tails: &mut [u32],
     missing: &mut [u8],
@@ -31,8 +30,8 @@ fn move_up(
     previous: &[u8],
     arrival: u64,
 )
-    ensures { after hashes parents sequences counts flags map tips tails missing requested arrivals connected
-        ≡ move_up (before hashes parents sequences counts flags map tips tails missing requested arrivals connected) slot.0 block.0
+    ensures { after hashes parents sequences counts flags tips tails missing requested arrivals connected
+        ≡ move_up (before hashes parents sequences counts flags tips tails missing requested arrivals connected) slot.0 block.0
         previous.now arrival }
 {
     put_word(tips, slot.0, block.0);
@@ -50,7 +49,6 @@ fn fork(
     sequences: &mut [u32],
     counts: &mut [u8],
     flags: &mut [u8],
-    map: &mut [u64],
     tips: &mut [u32],
     tails: &mut [u32],
     missing: &mut [u8],
@@ -63,13 +61,13 @@ fn fork(
     arrival: u64,
     active: BlockSlot,
 )
-    ensures { after hashes parents sequences counts flags map tips tails missing requested arrivals connected
-        ≡ fork_rule (before hashes parents sequences counts flags map tips tails missing requested arrivals connected) block.0 parent.0
+    ensures { after hashes parents sequences counts flags tips tails missing requested arrivals connected
+        ≡ fork_rule (before hashes parents sequences counts flags tips tails missing requested arrivals connected) block.0 parent.0
         previous.now arrival active.0 }
 {
     adjust_head_ref_count(sequences, counts, parent, 1);
     insert_head(
-        hashes, parents, sequences, counts, flags, map, tips, tails, missing, requested, arrivals,
+        hashes, parents, sequences, counts, flags, tips, tails, missing, requested, arrivals,
         connected, block, block, previous, arrival, active,
     );
 }
@@ -80,7 +78,6 @@ fn place_above(
     sequences: &mut [u32],
     counts: &mut [u8],
     flags: &mut [u8],
-    map: &mut [u64],
     tips: &mut [u32],
     tails: &mut [u32],
     missing: &mut [u8],
@@ -93,18 +90,18 @@ fn place_above(
     arrival: u64,
     active: BlockSlot,
 )
-    ensures { after hashes parents sequences counts flags map tips tails missing requested arrivals connected
-        ≡ place_head (before hashes parents sequences counts flags map tips tails missing requested arrivals connected) block.0
+    ensures { after hashes parents sequences counts flags tips tails missing requested arrivals connected
+        ≡ place_head (before hashes parents sequences counts flags tips tails missing requested arrivals connected) block.0
         (some parent.0) previous.now arrival active.0 }
 {
     match slot_of_head(tips, parent) {
         FoundHead::At(slot) => move_up(
-            hashes, parents, sequences, counts, flags, map, tips, tails, missing, requested,
-            arrivals, connected, slot, block, previous, arrival,
+            hashes, parents, sequences, counts, flags, tips, tails, missing, requested, arrivals,
+            connected, slot, block, previous, arrival,
         ),
         FoundHead::Nothing => fork(
-            hashes, parents, sequences, counts, flags, map, tips, tails, missing, requested,
-            arrivals, connected, block, parent, previous, arrival, active,
+            hashes, parents, sequences, counts, flags, tips, tails, missing, requested, arrivals,
+            connected, block, parent, previous, arrival, active,
         ),
     }
 }
@@ -117,7 +114,6 @@ pub fn place_head(
     sequences: &mut [u32],
     counts: &mut [u8],
     flags: &mut [u8],
-    map: &mut [u64],
     tips: &mut [u32],
     tails: &mut [u32],
     missing: &mut [u8],
@@ -130,18 +126,18 @@ pub fn place_head(
     arrival: u64,
     active: BlockSlot,
 )
-    ensures { after hashes parents sequences counts flags map tips tails missing requested arrivals connected
-        ≡ place_head (before hashes parents sequences counts flags map tips tails missing requested arrivals connected) block.0
+    ensures { after hashes parents sequences counts flags tips tails missing requested arrivals connected
+        ≡ place_head (before hashes parents sequences counts flags tips tails missing requested arrivals connected) block.0
         (slot_found parent) previous.now arrival active.0 }
 {
     match parent {
         Found::Nothing => insert_head(
-            hashes, parents, sequences, counts, flags, map, tips, tails, missing, requested,
-            arrivals, connected, block, block, previous, arrival, active,
+            hashes, parents, sequences, counts, flags, tips, tails, missing, requested, arrivals,
+            connected, block, block, previous, arrival, active,
         ),
         Found::At(below) => place_above(
-            hashes, parents, sequences, counts, flags, map, tips, tails, missing, requested,
-            arrivals, connected, block, below, previous, arrival, active,
+            hashes, parents, sequences, counts, flags, tips, tails, missing, requested, arrivals,
+            connected, block, below, previous, arrival, active,
         ),
     }
 }

@@ -78,7 +78,6 @@ fn join(
     sequences: &[u32],
     counts: &mut [u8],
     flags: &[u8],
-    map: &[u64],
     tips: &mut [u32],
     tails: &mut [u32],
     missing: &mut [u8],
@@ -87,8 +86,8 @@ fn join(
     connected: &mut [u8],
     block: BlockSlot,
 )
-    ensures { after hashes parents sequences counts flags map tips tails missing requested arrivals connected
-        ≡ joined_rule (before hashes parents sequences counts flags map tips tails missing requested arrivals connected) block.0 }
+    ensures { after hashes parents sequences counts flags tips tails missing requested arrivals connected
+        ≡ joined_rule (before hashes parents sequences counts flags tips tails missing requested arrivals connected) block.0 }
 {
     match slot_of_head(tips, block) {
         FoundHead::At(own) => put_head(
@@ -117,7 +116,6 @@ fn link(
     sequences: &[u32],
     counts: &mut [u8],
     flags: &[u8],
-    map: &[u64],
     tips: &mut [u32],
     tails: &mut [u32],
     missing: &mut [u8],
@@ -127,13 +125,13 @@ fn link(
     block: BlockSlot,
     head: HeadSlot,
 )
-    ensures { after hashes parents sequences counts flags map tips tails missing requested arrivals connected
-        ≡ link_rule (before hashes parents sequences counts flags map tips tails missing requested arrivals connected) block.0 head.0 }
+    ensures { after hashes parents sequences counts flags tips tails missing requested arrivals connected
+        ≡ link_rule (before hashes parents sequences counts flags tips tails missing requested arrivals connected) block.0 head.0 }
 {
     let tail = BlockSlot(word_at(tails, head.0));
     resolve_parent_ref(parents, tail, block);
     join(
-        hashes, parents, sequences, counts, flags, map, tips, tails, missing, requested, arrivals,
+        hashes, parents, sequences, counts, flags, tips, tails, missing, requested, arrivals,
         connected, block,
     );
 }
@@ -144,7 +142,6 @@ fn link_late(
     sequences: &[u32],
     counts: &mut [u8],
     flags: &[u8],
-    map: &[u64],
     tips: &mut [u32],
     tails: &mut [u32],
     missing: &mut [u8],
@@ -156,16 +153,16 @@ fn link_late(
     hash: [u8; 32],
     head: HeadSlot,
 )
-    ensures { after hashes parents sequences counts flags map tips tails missing requested arrivals connected
+    ensures { after hashes parents sequences counts flags tips tails missing requested arrivals connected
         ≡ link_late block.0 sequence.0 hash head.0
-        (before hashes parents sequences counts flags map tips tails missing requested arrivals connected) }
+        (before hashes parents sequences counts flags tips tails missing requested arrivals connected) }
 {
     if is_late(
         parents, sequences, tips, tails, missing, connected, block, sequence, hash, head,
     ) {
         link(
-            hashes, parents, sequences, counts, flags, map, tips, tails, missing, requested,
-            arrivals, connected, block, head,
+            hashes, parents, sequences, counts, flags, tips, tails, missing, requested, arrivals,
+            connected, block, head,
         );
     }
 }
@@ -178,7 +175,6 @@ pub fn link_tails(
     sequences: &[u32],
     counts: &mut [u8],
     flags: &[u8],
-    map: &[u64],
     tips: &mut [u32],
     tails: &mut [u32],
     missing: &mut [u8],
@@ -188,8 +184,8 @@ pub fn link_tails(
     block: BlockSlot,
     sequence: Sequence,
 )
-    ensures { after hashes parents sequences counts flags map tips tails missing requested arrivals connected
-        ≡ link_tails (before hashes parents sequences counts flags map tips tails missing requested arrivals connected) block.0
+    ensures { after hashes parents sequences counts flags tips tails missing requested arrivals connected
+        ≡ link_tails (before hashes parents sequences counts flags tips tails missing requested arrivals connected) block.0
         sequence.0 (hash_at hashes.now block.0) }
 {
     let hash = hash_at(hashes, block.0);
@@ -202,7 +198,6 @@ pub fn link_tails(
             sequences,
             counts,
             flags,
-            map,
             tips,
             tails,
             missing,

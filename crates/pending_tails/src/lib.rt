@@ -16,7 +16,6 @@ fn recompute_missed(
     sequences: &[u32],
     counts: &[u8],
     flags: &[u8],
-    map: &[u64],
     tips: &[u32],
     tails: &mut [u32],
     missing: &mut [u8],
@@ -29,7 +28,7 @@ fn recompute_missed(
     head: HeadSlot,
 )
     ensures { heads_after tips tails missing requested arrivals connected
-        ≡ recompute_missed (blocks_before hashes parents sequences counts flags map) block.0 hash previous.now head.0
+        ≡ recompute_missed (blocks_before hashes parents sequences counts flags) block.0 hash previous.now head.0
         (heads_before tips tails missing requested arrivals connected) }
 {
     if misses(tips, missing, connected, hash, head) {
@@ -46,7 +45,6 @@ fn recompute_missing(
     sequences: &[u32],
     counts: &[u8],
     flags: &[u8],
-    map: &[u64],
     tips: &[u32],
     tails: &mut [u32],
     missing: &mut [u8],
@@ -56,8 +54,8 @@ fn recompute_missing(
     block: BlockSlot,
     previous: &[u8],
 )
-    ensures { after hashes parents sequences counts flags map tips tails missing requested arrivals connected
-        ≡ recompute_missing (before hashes parents sequences counts flags map tips tails missing requested arrivals connected) block.0
+    ensures { after hashes parents sequences counts flags tips tails missing requested arrivals connected
+        ≡ recompute_missing (before hashes parents sequences counts flags tips tails missing requested arrivals connected) block.0
         (hash_at hashes.now block.0) previous.now }
 {
     let hash = hash_at(hashes, block.0);
@@ -70,7 +68,6 @@ fn recompute_missing(
             sequences,
             counts,
             flags,
-            map,
             tips,
             tails,
             missing,
@@ -93,7 +90,6 @@ pub fn resolve_pending_tails(
     sequences: &[u32],
     counts: &mut [u8],
     flags: &[u8],
-    map: &[u64],
     tips: &mut [u32],
     tails: &mut [u32],
     missing: &mut [u8],
@@ -103,19 +99,19 @@ pub fn resolve_pending_tails(
     block: BlockSlot,
     previous: &[u8],
 )
-    ensures { after hashes parents sequences counts flags map tips tails missing requested arrivals connected
-        ≡ resolve_tails (before hashes parents sequences counts flags map tips tails missing requested arrivals connected) block.0
+    ensures { after hashes parents sequences counts flags tips tails missing requested arrivals connected
+        ≡ resolve_tails (before hashes parents sequences counts flags tips tails missing requested arrivals connected) block.0
         previous.now }
 {
     if is_occupied(sequences, block) {
         let sequence = Sequence(word_at(sequences, block.0));
         link_tails(
-            hashes, parents, sequences, counts, flags, map, tips, tails, missing, requested,
-            arrivals, connected, block, sequence,
+            hashes, parents, sequences, counts, flags, tips, tails, missing, requested, arrivals,
+            connected, block, sequence,
         );
         recompute_missing(
-            hashes, parents, sequences, counts, flags, map, tips, tails, missing, requested,
-            arrivals, connected, block, previous,
+            hashes, parents, sequences, counts, flags, tips, tails, missing, requested, arrivals,
+            connected, block, previous,
         );
     }
 }

@@ -15,7 +15,6 @@ pub extern "C" fn probe_insert_head(
     sequences: &mut [u32],
     counts: &mut [u8],
     flags: &mut [u8],
-    map: &mut [u64],
     tips: &mut [u32],
     tails: &mut [u32],
     missing: &mut [u8],
@@ -28,8 +27,8 @@ pub extern "C" fn probe_insert_head(
     arrival: u64,
     active: u32,
 )
-    ensures { after hashes parents sequences counts flags map tips tails missing requested arrivals connected
-        ≡ insert_head (before hashes parents sequences counts flags map tips tails missing requested arrivals connected) tip arriving
+    ensures { after hashes parents sequences counts flags tips tails missing requested arrivals connected
+        ≡ insert_head (before hashes parents sequences counts flags tips tails missing requested arrivals connected) tip arriving
         previous.now arrival active }
 {
     head_insertion::insert_head(
@@ -38,7 +37,6 @@ pub extern "C" fn probe_insert_head(
         sequences,
         counts,
         flags,
-        map,
         tips,
         tails,
         missing,
@@ -61,7 +59,6 @@ pub extern "C" fn probe_resolve_pending_tails(
     sequences: &[u32],
     counts: &mut [u8],
     flags: &[u8],
-    map: &[u64],
     tips: &mut [u32],
     tails: &mut [u32],
     missing: &mut [u8],
@@ -71,8 +68,8 @@ pub extern "C" fn probe_resolve_pending_tails(
     block: u32,
     previous: &[u8],
 )
-    ensures { after hashes parents sequences counts flags map tips tails missing requested arrivals connected
-        ≡ resolve_tails (before hashes parents sequences counts flags map tips tails missing requested arrivals connected) block
+    ensures { after hashes parents sequences counts flags tips tails missing requested arrivals connected
+        ≡ resolve_tails (before hashes parents sequences counts flags tips tails missing requested arrivals connected) block
         previous.now }
 {
     pending_tails::resolve_pending_tails(
@@ -81,7 +78,6 @@ pub extern "C" fn probe_resolve_pending_tails(
         sequences,
         counts,
         flags,
-        map,
         tips,
         tails,
         missing,
@@ -101,7 +97,6 @@ pub extern "C" fn probe_on_block_admitted(
     sequences: &mut [u32],
     counts: &mut [u8],
     flags: &mut [u8],
-    map: &mut [u64],
     tips: &mut [u32],
     tails: &mut [u32],
     missing: &mut [u8],
@@ -114,8 +109,8 @@ pub extern "C" fn probe_on_block_admitted(
     arrival: u64,
     active: u32,
 )
-    ensures { after hashes parents sequences counts flags map tips tails missing requested arrivals connected
-        ≡ admitted (before hashes parents sequences counts flags map tips tails missing requested arrivals connected) block
+    ensures { after hashes parents sequences counts flags tips tails missing requested arrivals connected
+        ≡ admitted (before hashes parents sequences counts flags tips tails missing requested arrivals connected) block
         (slot_from parent) previous.now arrival active }
 {
     admission::on_block_admitted(
@@ -124,7 +119,6 @@ pub extern "C" fn probe_on_block_admitted(
         sequences,
         counts,
         flags,
-        map,
         tips,
         tails,
         missing,
@@ -147,7 +141,6 @@ pub extern "C" fn probe_refresh_tails(
     sequences: &[u32],
     counts: &[u8],
     flags: &[u8],
-    map: &[u64],
     tips: &[u32],
     tails: &mut [u32],
     missing: &mut [u8],
@@ -155,11 +148,11 @@ pub extern "C" fn probe_refresh_tails(
     arrivals: &[u64],
     connected: &mut [u8],
 )
-    ensures { after hashes parents sequences counts flags map tips tails missing requested arrivals connected
-        ≡ refresh_tails (before hashes parents sequences counts flags map tips tails missing requested arrivals connected) }
+    ensures { after hashes parents sequences counts flags tips tails missing requested arrivals connected
+        ≡ refresh_tails (before hashes parents sequences counts flags tips tails missing requested arrivals connected) }
 {
     tail_refresh::refresh_tails(
-        hashes, parents, sequences, counts, flags, map, tips, tails, missing, requested, arrivals,
+        hashes, parents, sequences, counts, flags, tips, tails, missing, requested, arrivals,
         connected,
     );
 }

@@ -25,7 +25,6 @@ pub extern "C" fn probe_on_blocks_deleted(
     sequences: &[u32],
     counts: &mut [u8],
     flags: &[u8],
-    map: &[u64],
     tips: &mut [u32],
     tails: &mut [u32],
     missing: &mut [u8],
@@ -35,8 +34,8 @@ pub extern "C" fn probe_on_blocks_deleted(
     deleted: &[u32],
     reattach: u32,
 )
-    ensures { after hashes parents sequences counts flags map tips tails missing requested arrivals connected
-        ≡ blocks_deleted (before hashes parents sequences counts flags map tips tails missing requested arrivals connected)
+    ensures { after hashes parents sequences counts flags tips tails missing requested arrivals connected
+        ≡ blocks_deleted (before hashes parents sequences counts flags tips tails missing requested arrivals connected)
         deleted.now reattach }
 {
     removal::on_blocks_deleted(
@@ -45,7 +44,6 @@ pub extern "C" fn probe_on_blocks_deleted(
         sequences,
         counts,
         flags,
-        map,
         tips,
         tails,
         missing,

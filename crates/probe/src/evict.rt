@@ -28,7 +28,6 @@ pub extern "C" fn probe_evict_one(
     sequences: &mut [u32],
     counts: &mut [u8],
     flags: &mut [u8],
-    map: &mut [u64],
     tips: &mut [u32],
     tails: &mut [u32],
     missing: &mut [u8],
@@ -37,8 +36,8 @@ pub extern "C" fn probe_evict_one(
     connected: &mut [u8],
     active: u32,
 )
-    ensures { after hashes parents sequences counts flags map tips tails missing requested arrivals connected
-        ≡ evict_one (before hashes parents sequences counts flags map tips tails missing requested arrivals connected) active }
+    ensures { after hashes parents sequences counts flags tips tails missing requested arrivals connected
+        ≡ evict_one (before hashes parents sequences counts flags tips tails missing requested arrivals connected) active }
 {
     eviction::evict_one(
         hashes,
@@ -46,7 +45,6 @@ pub extern "C" fn probe_evict_one(
         sequences,
         counts,
         flags,
-        map,
         tips,
         tails,
         missing,

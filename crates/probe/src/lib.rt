@@ -104,7 +104,6 @@ pub extern "C" fn probe_insert_at(
     sequences: &mut [u32],
     counts: &mut [u8],
     flags: &mut [u8],
-    map: &mut [u64],
     slot: u32,
     hash: &[u8],
     parent: u32,
@@ -112,8 +111,8 @@ pub extern "C" fn probe_insert_at(
     count: u8,
     bits: u8,
 )
-    ensures { blocks_after hashes parents sequences counts flags map
-        ≡ insert_at (blocks_before hashes parents sequences counts flags map) slot
+    ensures { blocks_after hashes parents sequences counts flags
+        ≡ insert_at (blocks_before hashes parents sequences counts flags) slot
         (block_of (hash_at hash.now 0) parent sequence count bits) }
 {
     let bytes = cells::hash_at(hash, 0);
@@ -130,13 +129,12 @@ pub extern "C" fn probe_insert_at(
         sequences,
         counts,
         flags,
-        map,
         BlockSlot(slot),
         block,
     );
 }
 
-// The lowest free slot, which the block gets; 2^32 is the reserved sequence and one more that none is free, and then nothing changes.
+// The lowest empty slot, which the block gets; 2^32 is the reserved sequence and one more a full table, and then nothing changes.
 #[unsafe(no_mangle)]
 pub extern "C" fn probe_insert(
     hashes: &mut [u8],
@@ -144,7 +142,6 @@ pub extern "C" fn probe_insert(
     sequences: &mut [u32],
     counts: &mut [u8],
     flags: &mut [u8],
-    map: &mut [u64],
     hash: &[u8],
     parent: u32,
     sequence: u32,
@@ -153,10 +150,10 @@ pub extern "C" fn probe_insert(
 ) -> u64
     ensures { (result
         ≡ insertion_number
-        (insertion sequences.old map.old
+        (insertion sequences.old
         (block_of (hash_at hash.now 0) parent sequence count bits)))
-        × (blocks_after hashes parents sequences counts flags map
-        ≡ insert (blocks_before hashes parents sequences counts flags map)
+        × (blocks_after hashes parents sequences counts flags
+        ≡ insert (blocks_before hashes parents sequences counts flags)
         (block_of (hash_at hash.now 0) parent sequence count bits)) }
 {
     let bytes = cells::hash_at(hash, 0);
@@ -167,7 +164,7 @@ pub extern "C" fn probe_insert(
         count,
         flags: bits,
     };
-    inserted(block_changes::insert(hashes, parents, sequences, counts, flags, map, block))
+    inserted(block_changes::insert(hashes, parents, sequences, counts, flags, block))
 }
 
 // Empties the slot; 1 if it was occupied, else 0 and nothing changes.
@@ -178,21 +175,12 @@ pub extern "C" fn probe_delete(
     sequences: &mut [u32],
     counts: &mut [u8],
     flags: &mut [u8],
-    map: &mut [u64],
     slot: u32,
 ) -> u32
     ensures { (result ≡ yes (occupied sequences.old slot))
-        × (blocks_after hashes parents sequences counts flags map ≡ delete (blocks_before hashes parents sequences counts flags map) slot) }
+        × (blocks_after hashes parents sequences counts flags ≡ delete (blocks_before hashes parents sequences counts flags) slot) }
 {
-    said(block_changes::delete(
-        hashes,
-        parents,
-        sequences,
-        counts,
-        flags,
-        map,
-        BlockSlot(slot),
-    ))
+    said(block_changes::delete(hashes, parents, sequences, counts, flags, BlockSlot(slot)))
 }
 
 // Sets the parent; an empty slot is written too.

@@ -13,7 +13,6 @@ pub extern "C" fn probe_rebuild_from_blocks(
     sequences: &mut [u32],
     counts: &mut [u8],
     flags: &mut [u8],
-    map: &mut [u64],
     tips: &mut [u32],
     tails: &mut [u32],
     missing: &mut [u8],
@@ -23,8 +22,8 @@ pub extern "C" fn probe_rebuild_from_blocks(
     arrival: u64,
     active: u32,
 )
-    ensures { after hashes parents sequences counts flags map tips tails missing requested arrivals connected
-        ≡ rebuilt (before hashes parents sequences counts flags map tips tails missing requested arrivals connected) arrival active }
+    ensures { after hashes parents sequences counts flags tips tails missing requested arrivals connected
+        ≡ rebuilt (before hashes parents sequences counts flags tips tails missing requested arrivals connected) arrival active }
 {
     rebuild::rebuild_from_blocks(
         hashes,
@@ -32,7 +31,6 @@ pub extern "C" fn probe_rebuild_from_blocks(
         sequences,
         counts,
         flags,
-        map,
         tips,
         tails,
         missing,

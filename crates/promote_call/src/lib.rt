@@ -37,7 +37,6 @@ fn raise(
     sequences: &[u32],
     counts: &[u8],
     flags: &mut [u8],
-    map: &[u64],
     tips: &[u32],
     tails: &mut [u32],
     missing: &mut [u8],
@@ -46,8 +45,8 @@ fn raise(
     connected: &mut [u8],
     slot: BlockSlot,
 )
-    ensures { after hashes parents sequences counts flags map tips tails missing requested arrivals connected
-        ≡ promoted_rule (before hashes parents sequences counts flags map tips tails missing requested arrivals connected) slot.0 }
+    ensures { after hashes parents sequences counts flags tips tails missing requested arrivals connected
+        ≡ promoted_rule (before hashes parents sequences counts flags tips tails missing requested arrivals connected) slot.0 }
 {
     activate(sequences, flags, slot);
     recompute_all_caches(
@@ -62,7 +61,6 @@ pub fn promote(
     sequences: &[u32],
     counts: &[u8],
     flags: &mut [u8],
-    map: &[u64],
     tips: &[u32],
     tails: &mut [u32],
     missing: &mut [u8],
@@ -73,13 +71,13 @@ pub fn promote(
     slot: BlockSlot,
 ) -> Recorded
     ensures { Sets (outcome_said result.outcome) result.active.0
-        (after hashes parents sequences counts flags map tips tails missing requested arrivals connected)
+        (after hashes parents sequences counts flags tips tails missing requested arrivals connected)
         (promote_rule
-        (state_of (before hashes parents sequences counts flags map tips tails missing requested arrivals connected) active.0)
+        (state_of (before hashes parents sequences counts flags tips tails missing requested arrivals connected) active.0)
         slot.0) }
 {
     if !is_shaped(
-        hashes, parents, sequences, counts, flags, map, tips, tails, missing, requested, arrivals,
+        hashes, parents, sequences, counts, flags, tips, tails, missing, requested, arrivals,
         connected,
     ) {
         return Recorded {
@@ -100,7 +98,7 @@ pub fn promote(
         };
     }
     raise(
-        hashes, parents, sequences, counts, flags, map, tips, tails, missing, requested, arrivals,
+        hashes, parents, sequences, counts, flags, tips, tails, missing, requested, arrivals,
         connected, slot,
     );
     Recorded {

@@ -38,7 +38,6 @@ fn rebuild_at(
     sequences: &mut [u32],
     counts: &mut [u8],
     flags: &mut [u8],
-    map: &mut [u64],
     tips: &mut [u32],
     tails: &mut [u32],
     missing: &mut [u8],
@@ -51,9 +50,9 @@ fn rebuild_at(
     slot: BlockSlot,
 )
     ensures { named.old ≡ named_parents parents.old sequences.old (length named.old)
-        → (after hashes parents sequences counts flags map tips tails missing requested arrivals connected
+        → (after hashes parents sequences counts flags tips tails missing requested arrivals connected
         ≡ rebuild_at arrival active.0 slot.0
-        (before hashes parents sequences counts flags map tips tails missing requested arrivals connected))
+        (before hashes parents sequences counts flags tips tails missing requested arrivals connected))
         × (named.new ≡ named_parents parents.new sequences.new (length named.old)) }
 {
     if is_end(parents, sequences, named, slot) {
@@ -65,7 +64,6 @@ fn rebuild_at(
             sequences,
             counts,
             flags,
-            map,
             tips,
             tails,
             missing,
@@ -88,7 +86,6 @@ fn rebuild_heads(
     sequences: &mut [u32],
     counts: &mut [u8],
     flags: &mut [u8],
-    map: &mut [u64],
     tips: &mut [u32],
     tails: &mut [u32],
     missing: &mut [u8],
@@ -99,8 +96,8 @@ fn rebuild_heads(
     arrival: u64,
     active: BlockSlot,
 )
-    ensures { after hashes parents sequences counts flags map tips tails missing requested arrivals connected
-        ≡ rebuild_heads (before hashes parents sequences counts flags map tips tails missing requested arrivals connected) arrival
+    ensures { after hashes parents sequences counts flags tips tails missing requested arrivals connected
+        ≡ rebuild_heads (before hashes parents sequences counts flags tips tails missing requested arrivals connected) arrival
         active.0 }
 {
     name_parents(parents, sequences, named);
@@ -113,7 +110,6 @@ fn rebuild_heads(
             sequences,
             counts,
             flags,
-            map,
             tips,
             tails,
             missing,
@@ -137,7 +133,6 @@ pub fn rebuild_from_blocks(
     sequences: &mut [u32],
     counts: &mut [u8],
     flags: &mut [u8],
-    map: &mut [u64],
     tips: &mut [u32],
     tails: &mut [u32],
     missing: &mut [u8],
@@ -147,12 +142,12 @@ pub fn rebuild_from_blocks(
     arrival: u64,
     active: BlockSlot,
 )
-    ensures { after hashes parents sequences counts flags map tips tails missing requested arrivals connected
-        ≡ rebuilt (before hashes parents sequences counts flags map tips tails missing requested arrivals connected) arrival active.0 }
+    ensures { after hashes parents sequences counts flags tips tails missing requested arrivals connected
+        ≡ rebuilt (before hashes parents sequences counts flags tips tails missing requested arrivals connected) arrival active.0 }
 {
     let mut named = [0u8; 1024];
     rebuild_heads(
-        hashes, parents, sequences, counts, flags, map, tips, tails, missing, requested, arrivals,
+        hashes, parents, sequences, counts, flags, tips, tails, missing, requested, arrivals,
         connected, &mut named, arrival, active,
     );
     recompute_head_ref_counts(parents, sequences, counts);

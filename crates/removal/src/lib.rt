@@ -124,7 +124,6 @@ pub fn on_blocks_deleted(
     sequences: &[u32],
     counts: &mut [u8],
     flags: &[u8],
-    map: &[u64],
     tips: &mut [u32],
     tails: &mut [u32],
     missing: &mut [u8],
@@ -134,8 +133,8 @@ pub fn on_blocks_deleted(
     deleted: &[u32],
     reattach: BlockSlot,
 )
-    ensures { after hashes parents sequences counts flags map tips tails missing requested arrivals connected
-        ≡ blocks_deleted (before hashes parents sequences counts flags map tips tails missing requested arrivals connected)
+    ensures { after hashes parents sequences counts flags tips tails missing requested arrivals connected
+        ≡ blocks_deleted (before hashes parents sequences counts flags tips tails missing requested arrivals connected)
         deleted.now reattach.0 }
 {
     let moving = heir(parents, sequences, tips, deleted, reattach);

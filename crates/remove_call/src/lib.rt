@@ -21,7 +21,6 @@ fn remove_listed(
     sequences: &mut [u32],
     counts: &mut [u8],
     flags: &mut [u8],
-    map: &mut [u64],
     tips: &mut [u32],
     tails: &mut [u32],
     missing: &mut [u8],
@@ -31,14 +30,14 @@ fn remove_listed(
     deleted: &[u32],
     root: BlockSlot,
 )
-    ensures { after hashes parents sequences counts flags map tips tails missing requested arrivals connected
-        ≡ list_removed (before hashes parents sequences counts flags map tips tails missing requested arrivals connected)
+    ensures { after hashes parents sequences counts flags tips tails missing requested arrivals connected
+        ≡ list_removed (before hashes parents sequences counts flags tips tails missing requested arrivals connected)
         deleted.now (parent_at parents.old root.0) }
 {
     let parent = BlockSlot(word_at(parents, root.0));
-    free_all(hashes, parents, sequences, counts, flags, map, deleted);
+    free_all(hashes, parents, sequences, counts, flags, deleted);
     on_blocks_deleted(
-        hashes, parents, sequences, counts, flags, map, tips, tails, missing, requested, arrivals,
+        hashes, parents, sequences, counts, flags, tips, tails, missing, requested, arrivals,
         connected, deleted, parent,
     );
 }
@@ -50,7 +49,6 @@ fn permit(
     sequences: &[u32],
     counts: &[u8],
     flags: &[u8],
-    map: &[u64],
     tips: &[u32],
     tails: &[u32],
     missing: &[u8],
@@ -60,11 +58,11 @@ fn permit(
     root: BlockSlot,
 ) -> Outcome
     ensures { outcome_said result
-        ≡ (if not (shaped (before hashes parents sequences counts flags map tips tails missing requested arrivals connected)) then refused 1
+        ≡ (if not (shaped (before hashes parents sequences counts flags tips tails missing requested arrivals connected)) then refused 1
         else if not (occupied sequences.now root.0) then refused 3 else done) }
 {
     if !is_shaped(
-        hashes, parents, sequences, counts, flags, map, tips, tails, missing, requested, arrivals,
+        hashes, parents, sequences, counts, flags, tips, tails, missing, requested, arrivals,
         connected,
     ) {
         return Outcome::Refused(Refusal::Shape);
@@ -91,7 +89,6 @@ pub fn remove(
     sequences: &mut [u32],
     counts: &mut [u8],
     flags: &mut [u8],
-    map: &mut [u64],
     tips: &mut [u32],
     tails: &mut [u32],
     missing: &mut [u8],
@@ -101,13 +98,13 @@ pub fn remove(
     root: BlockSlot,
 ) -> Removed
     ensures { (active_head : ℕ) → Does (removed_said result)
-        (after hashes parents sequences counts flags map tips tails missing requested arrivals connected)
+        (after hashes parents sequences counts flags tips tails missing requested arrivals connected)
         (remove_rule
-        (state_of (before hashes parents sequences counts flags map tips tails missing requested arrivals connected) active_head)
+        (state_of (before hashes parents sequences counts flags tips tails missing requested arrivals connected) active_head)
         root.0) }
 {
     match permit(
-        hashes, parents, sequences, counts, flags, map, tips, tails, missing, requested, arrivals,
+        hashes, parents, sequences, counts, flags, tips, tails, missing, requested, arrivals,
         connected, root,
     ) {
         Outcome::Refused(why) => Removed::Refused(why),
@@ -124,7 +121,6 @@ pub fn remove(
                 sequences,
                 counts,
                 flags,
-                map,
                 tips,
                 tails,
                 missing,

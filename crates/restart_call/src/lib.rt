@@ -17,7 +17,6 @@ pub fn restart(
     sequences: &mut [u32],
     counts: &mut [u8],
     flags: &mut [u8],
-    map: &mut [u64],
     tips: &mut [u32],
     tails: &mut [u32],
     missing: &mut [u8],
@@ -28,13 +27,13 @@ pub fn restart(
     clock: u64,
 ) -> Outcome
     ensures { Does (outcome_said result)
-        (after hashes parents sequences counts flags map tips tails missing requested arrivals connected)
+        (after hashes parents sequences counts flags tips tails missing requested arrivals connected)
         (restart_rule
-        (state_of (before hashes parents sequences counts flags map tips tails missing requested arrivals connected) active.0)
+        (state_of (before hashes parents sequences counts flags tips tails missing requested arrivals connected) active.0)
         clock) }
 {
     if !is_shaped(
-        hashes, parents, sequences, counts, flags, map, tips, tails, missing, requested, arrivals,
+        hashes, parents, sequences, counts, flags, tips, tails, missing, requested, arrivals,
         connected,
     ) {
         return Outcome::Refused(Refusal::Shape);
@@ -42,7 +41,7 @@ pub fn restart(
     empty_heads(tips, tails, missing, requested, arrivals, connected);
     recompute_head_ref_counts(parents, sequences, counts);
     rebuild_from_blocks(
-        hashes, parents, sequences, counts, flags, map, tips, tails, missing, requested, arrivals,
+        hashes, parents, sequences, counts, flags, tips, tails, missing, requested, arrivals,
         connected, clock, active,
     );
     Outcome::Done

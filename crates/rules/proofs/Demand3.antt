@@ -8,7 +8,6 @@ use Rattle.rules.specs.Records.{NONE, empty_blocks, empty_heads}
 use Rattle.rules.specs.Calls.{Call, shaped, blocks_in, heads_in, fresh_state, fresh, max_blocks, min_heads, max_heads}
 use Rattle.rules.specs.Promises.{Occupied, Active, Sound, Recorded, Promise, Demand3}
 use Rattle.rules.proofs.Splits.{split}
-use Rattle.rules.proofs.Mapped.{map-true, fresh-true}
 use Rattle.rules.proofs.Kept.Table.{ne-occupied}
 use Rattle.rules.proofs.Kept.Frame.{Good, All}
 use Rattle.rules.proofs.Kept.Empty.{no_block, none-held, empty-shape, no-head, none-used, empty-room}
@@ -54,7 +53,7 @@ module _ (n m : ℕ) (some : 1 ≤ n) (small : n ≤ max_blocks) (two : min_head
 
   -- for every n and m in range
   pub from-fresh : (calls : List Call) → Promise [] (fresh_state n m) calls
-  from-fresh calls = list-promise [] (fresh_state n m) fresh-sound fresh-recorded (map-true (fresh_state n m) (fresh-true n m)) calls
+  from-fresh calls = list-promise [] (fresh_state n m) fresh-sound fresh-recorded calls
 
 pub demand-3 : Demand3
 unfolding fresh

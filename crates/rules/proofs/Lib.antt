@@ -7,7 +7,6 @@ pub mod Under
 pub mod Each
 pub mod Freed
 pub mod Hashes
-pub mod Maps
 pub mod Orders
 pub mod Best
 pub mod Timer
@@ -17,8 +16,6 @@ pub mod Walks
 pub mod Refusals
 pub mod Marked
 pub mod Loops
-pub mod Mapped
-pub mod TrueMaps
 pub mod Does
 pub mod Kept
 pub mod Demand3

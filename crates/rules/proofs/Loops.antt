@@ -12,7 +12,6 @@ pub record SameBlocks (b was : Blocks) : Type 0 where
   pub sequences : length b.sequences ≡ length was.sequences
   pub counts : length b.counts ≡ length was.counts
   pub flags : length b.flags ≡ length was.flags
-  pub map : length b.map ≡ length was.map
 
 pub record SameHeads (h was : Heads) : Type 0 where
   pub tips : length h.tips ≡ length was.tips

@@ -8,16 +8,15 @@ use lib.Dec.{eqb}
 use borrow.Author.Tests.{eqb-true}
 use Rattle.rules.specs.Common.{lowest}
 use Rattle.rules.specs.Hashes.{same_hash}
-use Rattle.rules.specs.Map.{bit_of, mapped}
-use Rattle.rules.specs.Records.{slots_of, words_of, occupied, status_of, empty_blocks, empty_heads, blocks_fit, heads_fit}
-use Rattle.rules.specs.BlockTable.{is_block, find, free_bit, is_free, next_free, adjusted}
+use Rattle.rules.specs.Records.{slots_of, occupied, status_of, empty_blocks, empty_heads, blocks_fit, heads_fit}
+use Rattle.rules.specs.BlockTable.{is_block, find, next_free, adjusted}
 use Rattle.rules.specs.Timer.{due, claimed}
-use Rattle.rules.specs.Calls.{shaped, fresh_state, fresh, admit_to, admit}
+use Rattle.rules.specs.Calls.{shaped, fresh_state, fresh, admit}
 use Rattle.rules.specs.Marked.{Mark, fresh_of, admit_of, marks, all_as_marked}
 use Rattle.rules.proofs.Splits.{and-true}
 
 all-as-marked : all_as_marked marks ≡ true
-unfolding all_as_marked marks due adjusted status_of claimed fresh_of admit_of fresh fresh_state empty_blocks empty_heads shaped blocks_fit heads_fit admit_to admit find is_block bit_of mapped free_bit is_free next_free lowest slots_of words_of occupied same_hash
+unfolding all_as_marked marks due adjusted status_of claimed fresh_of admit_of fresh fresh_state empty_blocks empty_heads shaped blocks_fit heads_fit admit find is_block next_free lowest slots_of occupied same_hash
 all-as-marked = refl
 
 each : (rows : List Mark) (row : Mark) → all_as_marked rows ≡ true → Memᴰ row rows → row.given ≡ row.marked

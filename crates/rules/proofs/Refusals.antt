@@ -1,5 +1,5 @@
--- Every refusal is one of the paper's numbers, of fresh, restart, timer, deadline and the occupied total 1 alone, of under 1 or 3, of screen
--- 1 or 10, and a refused call leaves the state as it stood; under, screen, the occupied total and the deadline always do.
+-- Every refusal is one of the paper's numbers, of fresh, restart, timer and deadline 1 alone, of under 1 or 3, of screen 1 or 10, and a
+-- refused call leaves the state as it stood; under and screen always do.
 use mathlib.Core.Path.{◌≡◌, refl, ap}
 use mathlib.Core.Logic.{◌≢◌, ◌⊎◌, inl, inr}
 use mathlib.Core.Bool.{Bool, true, false, not, ◌&&◌}
@@ -13,14 +13,14 @@ use lib.ListN.{length}
 use Rattle.rules.specs.Common.{if◌then◌else◌}
 use Rattle.rules.specs.Hashes.{hash_length, zero_hash, hash_at, same_hash}
 use Rattle.rules.specs.Records.{NONE, occupied}
-use Rattle.rules.specs.BlockTable.{next_free, map_total, mark_subtree}
+use Rattle.rules.specs.BlockTable.{next_free, mark_subtree}
 use Rattle.rules.specs.Under.{hanging, highest}
 use Rattle.rules.specs.Screen.{screen_of}
 use Rattle.rules.specs.Removal.{removed}
 use Rattle.rules.specs.Rebuild.{restarted}
 use Rattle.rules.specs.Timer.{Ask, span_or, recovery, deadline}
-use Rattle.rules.specs.Answers.{Answer, refused, done, slot, freed, hangs, total, shown, request, none_due, due_at, never_due, last_refusal}
-use Rattle.rules.specs.Calls.{State, Stepped, Call, admit_call, promote_call, remove_call, timer_call, restart_call, step, refuse, answering, keeping, shaped, blocks_in, heads_in, fresh_state, fresh, known, takes_slot, admit_to, admit, is_next, promoted_to, promote, holds_active, remove, under, occupied_total, screen, asked, timer, earliest_deadline, restart}
+use Rattle.rules.specs.Answers.{Answer, refused, done, slot, freed, hangs, shown, request, none_due, due_at, never_due, last_refusal}
+use Rattle.rules.specs.Calls.{State, Stepped, Call, admit_call, promote_call, remove_call, timer_call, restart_call, step, refuse, answering, keeping, shaped, blocks_in, heads_in, fresh_state, fresh, known, takes_slot, admit, is_next, promoted_to, promote, holds_active, remove, under, screen, asked, timer, earliest_deadline, restart}
 use Rattle.rules.proofs.Splits.{split, option?, and-true, true-not-false}
 
 abbrev Numbered : ℕ → Type 0
@@ -45,7 +45,6 @@ is_refusal done = false
 is_refusal (slot i) = false
 is_refusal (freed blocks) = false
 is_refusal (hangs blocks highest) = false
-is_refusal (total blocks) = false
 is_refusal (shown rows) = false
 is_refusal (request head claims missing) = false
 is_refusal none_due = false
@@ -73,14 +72,14 @@ pub record Free (s : State) (sequence : ℕ) (hash : List ℕ) (i : ℕ) : Type 
   pub len : length hash ≡ hash_length
   pub real : sequence ≢ NONE
   pub unknown : known s sequence hash ≡ false
-  pub next : next_free s.tables.blocks.sequences s.tables.blocks.map ≡ some i
+  pub next : next_free s.tables.blocks.sequences ≡ some i
 
 module _ (s : State) (sequence : ℕ) (hash previous : List ℕ) (arrival : ℕ) where
-  -- refused, or put into the lowest free slot
+  -- refused, or put into the lowest empty slot
   pub admit? {ℓ} : (P : Stepped → Type ℓ) → ((n : ℕ) → (1 ≤ n) × (n ≤ last_refusal) → P (refuse s n))
       → ((i : ℕ) → Free s sequence hash i → P (takes_slot s i sequence hash previous arrival))
       → P (admit s sequence hash previous arrival)
-  unfolding admit admit_to
+  unfolding admit
   admit? P f g = split (shaped s.tables)
       (λ e1. split (eqb (length hash) hash_length && eqb (length previous) hash_length)
       (λ e2. split (eqb sequence NONE)
@@ -89,7 +88,7 @@ module _ (s : State) (sequence : ℕ) (hash previous : List ℕ) (arrival : ℕ)
       (λ e5. rw (e1, e2, e4, e5) (f 5 (omega arith, omega arith)))
       (λ e5. split (known s sequence hash)
       (λ e6. rw (e1, e2, e4, e5, e6) (f 6 (omega arith, omega arith)))
-      (λ e6. option? (next_free s.tables.blocks.sequences s.tables.blocks.map)
+      (λ e6. option? (next_free s.tables.blocks.sequences)
       (λ e7. rw (e1, e2, e4, e5, e6, e7) (f 7 (omega arith, omega arith)))
       (λ i e7. rw (e1, e2, e4, e5, e6, e7) (g i (record {
         len = eqb-true (length hash) hash_length (and-true (eqb (length hash) hash_length) (eqb (length previous) hash_length) e2).0;
@@ -182,14 +181,6 @@ module _ (s : State) where
   unfolding fresh Refuses
   fresh-refused = let u = fresh_state (blocks_in s.tables) (heads_in s.tables) in shape-first (answering u done) (answers First s u done refl)
 
-  pub total-refused : (n : ℕ) → (occupied_total s).answer ≡ refused n → (n ≡ 1) × ((occupied_total s).after ≡ s)
-  unfolding occupied_total Refuses
-  total-refused = let y = answering s (total (map_total s.tables.blocks.map)) in shape-first y (answers First s s y.answer refl)
-
-  pub total-keeps : (occupied_total s).after ≡ s
-  unfolding occupied_total
-  total-keeps = split (shaped s.tables) (λ e. rw e) (λ e. rw e)
-
   pub restart-refused : (now n : ℕ) → (restart s now).answer ≡ refused n → (n ≡ 1) × ((restart s now).after ≡ s)
   unfolding restart Refuses
   restart-refused now = let u = keeping s (restarted s.tables now s.active_head) in shape-first (answering u done) (answers First s u done refl)
@@ -214,14 +205,6 @@ module _ (s : State) where
       option? (deadline h.tips h.requested h.connected (span_or span))
       (λ e. rw e (shape-first (answering s never_due) (answers First s s never_due refl)))
       (λ time e. rw e (shape-first (answering s (due_at time)) (answers First s s (due_at time) refl)))
-
-  pub deadline-keeps : (span : Option ℕ) → (earliest_deadline s span).after ≡ s
-  unfolding earliest_deadline
-  deadline-keeps span =
-      let h = s.tables.heads in
-      split (shaped s.tables)
-      (λ e. option? (deadline h.tips h.requested h.connected (span_or span)) (λ d. rw (e, d)) (λ time d. rw (e, d)))
-      (λ e. rw e)
 
   -- ---- every call of a list
 

@@ -1,5 +1,5 @@
 -- Lists of calls computed whole: the trial that 01 gives ("One trial whole"), and lists that a wrong rule gets wrong. What hangs under the
--- blocks of damaged tables, the screen of damaged heads, and what false maps give.
+-- blocks of damaged tables, and the screen of damaged heads.
 use mathlib.Core.Path.{◌≡◌, refl}
 use mathlib.Core.List.{List, [], ◌∷◌, ◌++◌, map}
 use mathlib.Core.Option.{some}
@@ -7,9 +7,8 @@ use Prim.Native.Nat.{ℕ, ◌*◌}
 use lib.ListN.{length, replicate}
 use Rattle.rules.specs.Common.{lowest, better, best, count_below, all_below, any_before, placed, placed_below, in_order}
 use Rattle.rules.specs.Hashes.{hash_length, bytes_from, hash_at, put_hash, same_hash, hash_less}
-use Rattle.rules.specs.Map.{words_for, bit_of, with_bit, mapped, put_bit}
-use Rattle.rules.specs.Records.{NONE, slots_of, words_of, occupied, used, active, is_connected, stored, with_status, put_block, put_head, empty_blocks, empty_heads, blocks_fit, heads_fit}
-use Rattle.rules.specs.BlockTable.{is_block, find, free_bit, is_free, next_free, map_total, find_parent, child_of, children, childless, reaches, in_subtree, mark_subtree, adjusted, adjust_counts, set_occupied, set_on_active_chain, set_status, delete, insert_at, resolve_parent, adjust}
+use Rattle.rules.specs.Records.{NONE, slots_of, occupied, used, active, is_connected, stored, with_status, put_block, put_head, empty_blocks, empty_heads, blocks_fit, heads_fit}
+use Rattle.rules.specs.BlockTable.{is_block, find, next_free, find_parent, child_of, children, childless, reaches, in_subtree, mark_subtree, adjusted, adjust_counts, set_occupied, set_on_active_chain, set_status, delete, insert_at, resolve_parent, adjust}
 use Rattle.rules.specs.Under.{on_level, met, hanging, highest}
 use Rattle.rules.specs.Anchor.{anchor_from, locate_anchor}
 use Rattle.rules.specs.Caches.{waits_at, knowing, missing_part, keep, recompute, slot_of_head, refresh_head, recompute_used, recompute_all}
@@ -20,8 +19,8 @@ use Rattle.rules.specs.Removal.{recount, recount_all, listed, head_freed, takes_
 use Rattle.rules.specs.Rebuild.{rebuild_at, rebuild_heads, rebuilt, restarted}
 use Rattle.rules.specs.Timer.{due, may_ask, asks_before, chosen, claimed, ask_at, recovery, mark_requested}
 use Rattle.rules.specs.Screen.{hash_sorted, hash_then_slot, stands_before, standing, row_of, screen_of}
-use Rattle.rules.specs.Answers.{Answer, refused, done, slot, freed, hangs, total, shown, request}
-use Rattle.rules.specs.Calls.{State, Call, admit_call, promote_call, remove_call, timer_call, restart_call, shaped, fresh_state, admit_at, admit_to, admit, is_next, promote, holds_active, remove, under, occupied_total, screen, asked, timer, restart, step, run}
+use Rattle.rules.specs.Answers.{Answer, refused, done, slot, freed, hangs, shown, request}
+use Rattle.rules.specs.Calls.{State, Call, admit_call, promote_call, remove_call, timer_call, restart_call, shaped, fresh_state, admit_at, admit, is_next, promote, holds_active, remove, under, screen, asked, timer, restart, step, run}
 use Rattle.rules.specs.Promises.{Made, made}
 use Rattle.rules.specs.declared.HeadRow.{HeadRow}
 
@@ -39,7 +38,6 @@ record Trial : Type 0 where
   parents : List ℕ
   counts : List ℕ
   flags : List ℕ
-  words : List ℕ
   tips : List ℕ
   anchors : List ℕ
   connected : List ℕ
@@ -53,7 +51,6 @@ trial s calls =
       parents = t.blocks.parents;
       counts = t.blocks.counts;
       flags = t.blocks.flags;
-      words = t.blocks.map;
       tips = t.heads.tips;
       anchors = t.heads.tails;
       connected = t.heads.connected;
@@ -76,7 +73,6 @@ whole = record {
     parents = NONE ∷ NONE ∷ 0 ∷ NONE ∷ [];
     counts = 1 ∷ 0 ∷ 1 ∷ 1 ∷ [];
     flags = 5 ∷ 0 ∷ 0 ∷ 0 ∷ [];
-    words = 13 ∷ [];
     tips = 3 ∷ 2 ∷ [];
     anchors = 3 ∷ 0 ∷ [];
     connected = 0 ∷ 1 ∷ [];
@@ -93,7 +89,6 @@ active-kept = record {
     parents = NONE ∷ NONE ∷ NONE ∷ NONE ∷ [];
     counts = 0 ∷ 1 ∷ 0 ∷ 1 ∷ [];
     flags = 5 ∷ 0 ∷ 0 ∷ 0 ∷ [];
-    words = 11 ∷ [];
     tips = 3 ∷ 1 ∷ [];
     anchors = 3 ∷ 1 ∷ [];
     connected = 0 ∷ 0 ∷ [];
@@ -110,7 +105,6 @@ sibling-gone = record {
     parents = NONE ∷ NONE ∷ NONE ∷ 0 ∷ [];
     counts = 1 ∷ 0 ∷ 1 ∷ 1 ∷ [];
     flags = 0 ∷ 0 ∷ 0 ∷ 0 ∷ [];
-    words = 13 ∷ [];
     tips = 3 ∷ 2 ∷ [];
     anchors = 0 ∷ 2 ∷ [];
     connected = 0 ∷ 0 ∷ [];
@@ -127,7 +121,6 @@ late-child = record {
     parents = 1 ∷ NONE ∷ 1 ∷ NONE ∷ [];
     counts = 1 ∷ 2 ∷ 1 ∷ 0 ∷ [];
     flags = 0 ∷ 0 ∷ 0 ∷ 0 ∷ [];
-    words = 7 ∷ [];
     tips = 0 ∷ 2 ∷ [];
     anchors = 1 ∷ 1 ∷ [];
     connected = 0 ∷ 0 ∷ [];
@@ -144,7 +137,6 @@ subtree-gone = record {
     parents = NONE ∷ NONE ∷ NONE ∷ NONE ∷ [];
     counts = 1 ∷ 0 ∷ 0 ∷ 0 ∷ [];
     flags = 5 ∷ 0 ∷ 0 ∷ 0 ∷ [];
-    words = 1 ∷ [];
     tips = 0 ∷ NONE ∷ [];
     anchors = 0 ∷ NONE ∷ [];
     connected = 1 ∷ 0 ∷ [];
@@ -161,7 +153,6 @@ refreshed = record {
     parents = 4 ∷ 3 ∷ 1 ∷ 5 ∷ 1 ∷ NONE ∷ [];
     counts = 1 ∷ 2 ∷ 1 ∷ 1 ∷ 1 ∷ 1 ∷ [];
     flags = 0 ∷ 0 ∷ 0 ∷ 0 ∷ 0 ∷ 0 ∷ [];
-    words = 63 ∷ [];
     tips = 0 ∷ 2 ∷ NONE ∷ [];
     anchors = 5 ∷ 5 ∷ NONE ∷ [];
     connected = 0 ∷ 0 ∷ 0 ∷ [];
@@ -178,7 +169,6 @@ zeros-kept = record {
     parents = 2 ∷ 2 ∷ NONE ∷ [];
     counts = 1 ∷ 1 ∷ 2 ∷ [];
     flags = 0 ∷ 0 ∷ 0 ∷ [];
-    words = 7 ∷ [];
     tips = 0 ∷ 1 ∷ [];
     anchors = 2 ∷ 2 ∷ [];
     connected = 0 ∷ 0 ∷ [];
@@ -195,7 +185,6 @@ loaded = record {
       sequences = 5 ∷ 6 ∷ 6 ∷ 7 ∷ [];
       counts = replicate 4 0;
       flags = replicate 4 0;
-      map = 15 ∷ [];
     };
     heads = empty_heads 2;
   };
@@ -212,7 +201,6 @@ mended = record {
     parents = NONE ∷ NONE ∷ 0 ∷ NONE ∷ [];
     counts = 1 ∷ 0 ∷ 1 ∷ 1 ∷ [];
     flags = 0 ∷ 0 ∷ 0 ∷ 0 ∷ [];
-    words = 13 ∷ [];
     tips = 3 ∷ 2 ∷ [];
     anchors = 3 ∷ 0 ∷ [];
     connected = 0 ∷ 0 ∷ [];
@@ -224,7 +212,7 @@ rows = whole ∷ active-kept ∷ sibling-gone ∷ late-child ∷ subtree-gone �
 
 -- each list gives what is said
 as_said : map (λ (r : Row). r.given) rows ≡ map (λ (r : Row). r.said) rows
-unfolding rows trial whole active-kept sibling-gone late-child subtree-gone refreshed zeros-kept mended made step run fresh_state empty_blocks empty_heads lowest better best count_below all_below in_order bytes_from hash_at put_hash same_hash hash_less slots_of words_of occupied used active is_connected stored with_status bit_of with_bit mapped put_bit put_block put_head is_block find free_bit is_free next_free find_parent child_of children childless reaches in_subtree mark_subtree adjusted adjust_counts set_occupied set_on_active_chain set_status delete insert_at resolve_parent adjust anchor_from locate_anchor waits_at knowing missing_part keep recompute slot_of_head refresh_head recompute_used recompute_all block_before may_go victim evict_from evict evict_one first_empty seat_head make_room insert_head move_up fork place_head misses late joined link link_late recompute_missed link_tails recompute_missing resolve_tails admitted outgrown refresh_outgrown refresh_tails activate promoted recount recount_all listed head_freed takes_over heir drop_head drop_heads blocks_deleted free_all removed rebuild_at rebuild_heads rebuilt restarted due may_ask asks_before chosen claimed ask_at recovery mark_requested blocks_fit heads_fit shaped admit_at admit_to admit is_next promote holds_active remove asked timer restart
+unfolding rows trial whole active-kept sibling-gone late-child subtree-gone refreshed zeros-kept mended made step run fresh_state empty_blocks empty_heads lowest better best count_below all_below in_order bytes_from hash_at put_hash same_hash hash_less slots_of occupied used active is_connected stored with_status put_block put_head is_block find next_free find_parent child_of children childless reaches in_subtree mark_subtree adjusted adjust_counts set_occupied set_on_active_chain set_status delete insert_at resolve_parent adjust anchor_from locate_anchor waits_at knowing missing_part keep recompute slot_of_head refresh_head recompute_used recompute_all block_before may_go victim evict_from evict evict_one first_empty seat_head make_room insert_head move_up fork place_head misses late joined link link_late recompute_missed link_tails recompute_missing resolve_tails admitted outgrown refresh_outgrown refresh_tails activate promoted recount recount_all listed head_freed takes_over heir drop_head drop_heads blocks_deleted free_all removed rebuild_at rebuild_heads rebuilt restarted due may_ask asks_before chosen claimed ask_at recovery mark_requested blocks_fit heads_fit shaped admit_at admit is_next promote holds_active remove asked timer restart
 as_said = refl
 
 -- ---- what hangs under a block
@@ -239,7 +227,6 @@ damaged parents sequences = record {
       sequences = sequences;
       counts = replicate (length parents) 0;
       flags = replicate (length parents) 0;
-      map = replicate (words_for (length parents)) 0;
     };
     heads = empty_heads 2;
   };
@@ -300,7 +287,6 @@ screened = record {
       sequences = 7 ∷ 7 ∷ NONE ∷ 9 ∷ [];
       counts = replicate 4 0;
       flags = replicate 4 0;
-      map = 11 ∷ [];
     };
     heads = record {
       tips = 1 ∷ 2 ∷ NONE ∷ 9 ∷ 1 ∷ 0 ∷ 3 ∷ [];
@@ -343,80 +329,3 @@ screen-rows =
 screen-as-said : map (λ (r : Answered). r.answer) screen-rows ≡ map (λ (r : Answered). r.says) screen-rows
 unfolding screen-rows screened all_shown fresh_state empty_blocks empty_heads any_before placed placed_below bytes_from hash_at same_hash hash_less slots_of occupied used is_connected hash_sorted hash_then_slot stands_before standing row_of screen_of blocks_fit heads_fit shaped screen
 screen-as-said = refl
-
--- ---- false maps
-
--- blocks in slots 0 and 2 of 4, and this word for a map
-abbrev map_word : ℕ → State
-map_word word = record {
-  tables = record {
-    blocks = record {
-      hashes = hash 10 ++ hash 0 ++ hash 11 ++ hash 0;
-      parents = replicate 4 NONE;
-      sequences = 5 ∷ NONE ∷ 6 ∷ NONE ∷ [];
-      counts = replicate 4 0;
-      flags = replicate 4 0;
-      map = word ∷ [];
-    };
-    heads = empty_heads 2;
-  };
-  active_head = NONE;
-}
-
-abbrev admits_to : ℕ → Answer → Answered
-admits_to word says = record { answer = (admit (map_word word) 7 (hash 12) (hash 13) 1).answer; says = says }
-
-abbrev total_of : ℕ → Answer → Answered
-total_of word says = record { answer = (occupied_total (map_word word)).answer; says = says }
-
--- a true map, the word 5; one that says too much, and one too little; the bit of an occupied slot, after which no other is tried
-slot-rows : List Answered
-slot-rows = admits_to 5 (slot 1) ∷ admits_to 7 (slot 3) ∷ admits_to 1 (slot 1) ∷ admits_to 0 (refused 7) ∷ admits_to 3 (refused 7) ∷ []
-
-slots-as-said : map (λ (r : Answered). r.answer) slot-rows ≡ map (λ (r : Answered). r.says) slot-rows
-unfolding slot-rows empty_heads lowest bytes_from hash_at same_hash slots_of words_of occupied bit_of mapped is_block find free_bit is_free next_free blocks_fit heads_fit shaped admit_to admit
-slots-as-said = refl
-
--- n blocks in as many slots
-abbrev full_table : ℕ → List ℕ → State
-full_table n words = record {
-  tables = record {
-    blocks = record {
-      hashes = replicate (n * hash_length) 1;
-      parents = replicate n NONE;
-      sequences = replicate n 5;
-      counts = replicate n 0;
-      flags = replicate n 0;
-      map = words;
-    };
-    heads = empty_heads 2;
-  };
-  active_head = NONE;
-}
-
-abbrev full_to : ℕ → List ℕ → Answer → Answered
-full_to n words says = record { answer = (admit (full_table n words) 7 (hash 12) (hash 13) 1).answer; says = says }
-
--- a bit past the last slot, and no zero bit; the same of full tables with a true map
-full-rows : List Answered
-full-rows =
-    admits_to 15 (refused 7) ∷ admits_to 18446744073709551615 (refused 7)
-    ∷ full_to 65 (18446744073709551615 ∷ 1 ∷ []) (refused 7) ∷ full_to 64 (18446744073709551615 ∷ []) (refused 7)
-    ∷ []
-
-full-as-said : map (λ (r : Answered). r.answer) full-rows ≡ map (λ (r : Answered). r.says) full-rows
-unfolding full-rows empty_heads lowest bytes_from hash_at same_hash slots_of words_of occupied bit_of mapped is_block find free_bit is_free next_free blocks_fit heads_fit shaped admit_to admit
-full-as-said = refl
-
--- with the bits past the last slot
-total-rows : List Answered
-total-rows = total_of 5 (total 2) ∷ total_of 0 (total 0) ∷ total_of 48 (total 2) ∷ total_of 18446744073709551615 (total 64) ∷ []
-
-totals-as-said : map (λ (r : Answered). r.answer) total-rows ≡ map (λ (r : Answered). r.says) total-rows
-unfolding total-rows empty_heads count_below words_of bit_of mapped map_total blocks_fit heads_fit shaped occupied_total
-totals-as-said = refl
-
--- the heads are made anew, and the word stays
-restart-mends-no-map : (run (map_word 48) (restart_call 7 ∷ [])).tables.blocks.map ≡ 48 ∷ []
-unfolding run step empty_heads lowest count_below in_order bytes_from hash_at put_hash slots_of occupied used active is_connected stored put_head child_of children childless anchor_from locate_anchor waits_at knowing missing_part keep recompute slot_of_head first_empty seat_head make_room insert_head recount recount_all rebuild_at rebuild_heads rebuilt restarted blocks_fit heads_fit shaped restart bit_of with_bit mapped put_bit put_block
-restart-mends-no-map = refl

@@ -42,8 +42,6 @@ use Rattle.rules.specs.declared.Timed.{Timed}
 use Rattle.rules.specs.declared.Timed.TheVariants as timed
 use Rattle.rules.specs.declared.Hanging.{Hanging}
 use Rattle.rules.specs.declared.Hanging.TheVariants as hanging
-use Rattle.rules.specs.declared.Total.{Total}
-use Rattle.rules.specs.declared.Total.TheVariants as totalled
 use Rattle.rules.specs.declared.HeadRow.{HeadRow}
 use Rattle.rules.specs.declared.Screened.{Screened}
 use Rattle.rules.specs.declared.Screened.TheVariants as screened
@@ -123,7 +121,6 @@ pub data Answer : Type 0 where
   slot : (i : BlockSlot) → Answer
   freed : (blocks : ℕ) → Answer
   hangs : (blocks : ℕ) (highest : Sequence) → Answer
-  total : (blocks : ℕ) → Answer
   shown : (rows : List HeadRow) → Answer
   request : (head : HeadSlot) (claims : Sequence) (missing : Hash) → Answer
   none_due : Answer
@@ -146,10 +143,6 @@ abbrev pub hanging_said : (answer : Hanging) → Answer
 hanging_said (hanging.Blocks blocks highest) = hangs blocks highest.0
 hanging_said (hanging.Refused why) = refused (refusal_number why)
 
-abbrev pub total_said : (answer : Total) → Answer
-total_said (totalled.Blocks blocks) = total blocks
-total_said (totalled.Refused why) = refused (refusal_number why)
-
 -- the records stand beside the answer, as many as its number says
 abbrev pub screened_said : (answer : Screened) (rows : List HeadRow) → Answer
 screened_said (screened.Rows number) rows = shown rows
@@ -171,7 +164,6 @@ hash_asked done = zero_hash
 hash_asked (slot i) = zero_hash
 hash_asked (freed blocks) = zero_hash
 hash_asked (hangs blocks highest) = zero_hash
-hash_asked (total blocks) = zero_hash
 hash_asked (shown rows) = zero_hash
 hash_asked none_due = zero_hash
 hash_asked (due_at time) = zero_hash

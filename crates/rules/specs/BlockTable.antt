@@ -1,11 +1,10 @@
 -- The block table (01, "Block table").
-use Rattle.std.specs.Prelude.{Bool, true, false, not, ◌&&◌, List, [], ℕ, zero, suc, ◌+◌, ◌-◌, ◌*◌, min, eqb, ltb, ℤ, pos, negsuc, set}
+use Rattle.std.specs.Prelude.{Bool, true, false, not, ◌&&◌, List, [], ℕ, zero, suc, ◌+◌, ◌-◌, min, eqb, ltb, ℤ, pos, negsuc, set}
 use Rattle.std.proofs.Math.Option.{Option, none, some}
 use Rattle.rules.specs.Kinds.{BlockSlot, Sequence, Hash}
 use Rattle.rules.specs.Common.{if◌then◌else◌, lowest, count_below, all_below}
 use Rattle.rules.specs.Hashes.{hash_at, same_hash}
-use Rattle.rules.specs.Map.{word_bits, mapped}
-use Rattle.rules.specs.Records.{NONE, Blocks, slots_of, words_of, sequence_at, parent_at, count_at, flags_at, occupied, active, with_bit0, status_of, with_status, block_at, put_block, erase, with_counts}
+use Rattle.rules.specs.Records.{NONE, Blocks, slots_of, sequence_at, parent_at, count_at, flags_at, occupied, active, with_bit0, status_of, with_status, block_at, put_block, erase, with_counts}
 use Rattle.rules.specs.declared.Block.{Block}
 
 -- ---- looking
@@ -19,21 +18,9 @@ is_block hashes sequences sequence hash i =
 unfoldable pub find : (hashes sequences : List ℕ) (sequence : Sequence) (hash : Hash) → Option BlockSlot
 find hashes sequences sequence hash = lowest (is_block hashes sequences sequence hash) (slots_of sequences)
 
--- the map's first zero bit, of all its words: n or more where it stands past the last slot
-unfoldable pub free_bit : (map : List ℕ) → Option BlockSlot
-free_bit map = lowest (λ i. not (mapped map i)) (words_of map * word_bits)
-
--- slot i is one of the table, and empty by its sequence
-unfoldable pub is_free : (sequences : List ℕ) (i : BlockSlot) → Bool
-is_free sequences i = ltb i (slots_of sequences) && not (occupied sequences i)
-
--- the lowest free slot goes by the map (02, S-3); where the slot is none of the table or is occupied there is none, and no other is tried
-unfoldable pub next_free : (sequences map : List ℕ) → Option BlockSlot
-next_free sequences map = elim (free_bit map) [ none ↦ none | some i ↦ if is_free sequences i then some i else none ]
-
--- how many slots are occupied, by the map: the ones of all its words, those past the last slot too
-unfoldable pub map_total : (map : List ℕ) → ℕ
-map_total map = count_below (mapped map) (words_of map * word_bits)
+-- the lowest empty slot
+unfoldable pub next_free : (sequences : List ℕ) → Option BlockSlot
+next_free sequences = lowest (λ i. not (occupied sequences i)) (slots_of sequences)
 
 -- the block one lower in sequence with the previous hash; sequence 0 has no parent
 unfoldable pub find_parent : (hashes sequences : List ℕ) (sequence : Sequence) (previous : Hash) → Option BlockSlot
@@ -137,13 +124,13 @@ pub data Insertion : Type 0 where
   reserved : Insertion
   full : Insertion
 
--- the lowest free slot; a block of the reserved sequence gets none, and where none is free the table is full
-unfoldable pub insertion : (sequences map : List ℕ) (block : Block) → Insertion
-insertion sequences map block =
-    if eqb block.sequence.0 NONE then reserved else elim (next_free sequences map) [ none ↦ full | some i ↦ into_slot i ]
+-- the lowest empty slot; a block of the reserved sequence gets none, and a full table has none
+unfoldable pub insertion : (sequences : List ℕ) (block : Block) → Insertion
+insertion sequences block =
+    if eqb block.sequence.0 NONE then reserved else elim (next_free sequences) [ none ↦ full | some i ↦ into_slot i ]
 
 unfoldable pub insert : (b : Blocks) (block : Block) → Blocks
-insert b block = elim (insertion b.sequences b.map block) [ into_slot i ↦ insert_at b i block | reserved ↦ b | full ↦ b ]
+insert b block = elim (insertion b.sequences block) [ into_slot i ↦ insert_at b i block | reserved ↦ b | full ↦ b ]
 
 -- an empty slot is written too
 unfoldable pub resolve_parent : (parents : List ℕ) (i parent : BlockSlot) → List ℕ

@@ -5,7 +5,7 @@ use Rattle.rules.specs.Kinds.{BlockSlot, Sequence, Time, Hash}
 use Rattle.rules.specs.Common.{if◌then◌else◌, is_some, lowest}
 use Rattle.rules.specs.Hashes.{hash_length, zero_hash, hash_at, same_hash}
 use Rattle.rules.specs.Records.{NONE, Blocks, Tables, slots_of, parent_at, occupied, active, empty_blocks, empty_heads, with_blocks, with_heads, with_requested, blocks_fit, heads_fit, block_of}
-use Rattle.rules.specs.BlockTable.{find, next_free, map_total, find_parent, in_subtree, mark_subtree, insert_at}
+use Rattle.rules.specs.BlockTable.{find, next_free, find_parent, in_subtree, mark_subtree, insert_at}
 use Rattle.rules.specs.Under.{hanging, highest}
 use Rattle.rules.specs.Admission.{admitted, refresh_tails}
 use Rattle.rules.specs.Removal.{removed}
@@ -13,7 +13,7 @@ use Rattle.rules.specs.Promotion.{promoted}
 use Rattle.rules.specs.Rebuild.{restarted}
 use Rattle.rules.specs.Timer.{Ask, span_or, recovery, mark_requested, deadline}
 use Rattle.rules.specs.Screen.{screen_of}
-use Rattle.rules.specs.Answers.{Answer, refused, done, slot, freed, hangs, total, shown, request, none_due, due_at, never_due}
+use Rattle.rules.specs.Answers.{Answer, refused, done, slot, freed, hangs, shown, request, none_due, due_at, never_due}
 use Rattle.rules.specs.declared.Block.{Block}
 
 -- the tables, and the record that holds the active head's slot or NONE_REF
@@ -99,20 +99,14 @@ admit_at s i sequence hash previous arrival =
 abbrev pub takes_slot : (s : State) (i : BlockSlot) (sequence : Sequence) (hash previous : Hash) (arrival : Time) → Stepped
 takes_slot s i sequence hash previous arrival = answering (keeping s (admit_at s i sequence hash previous arrival)) (slot i)
 
--- the refusals in their order; then the block is admitted to the slot given, or refused by 7 where there is none
-unfoldable pub admit_to : (free : Option BlockSlot) (s : State) (sequence : Sequence) (hash previous : Hash) (arrival : Time) → Stepped
-admit_to free s sequence hash previous arrival =
+unfoldable pub admit : (s : State) (sequence : Sequence) (hash previous : Hash) (arrival : Time) → Stepped
+admit s sequence hash previous arrival =
     if not (shaped s.tables) then refuse s 1
     else if not (eqb (length hash) hash_length && eqb (length previous) hash_length) then refuse s 2
     else if eqb sequence NONE then refuse s 4
     else if same_hash hash zero_hash then refuse s 5
     else if known s sequence hash then refuse s 6
-    else elim free [ none ↦ refuse s 7 | some i ↦ takes_slot s i sequence hash previous arrival ]
-
--- the lowest free slot goes by the map, all else by the sequences (02, S-3)
-unfoldable pub admit : (s : State) (sequence : Sequence) (hash previous : Hash) (arrival : Time) → Stepped
-admit s sequence hash previous arrival =
-    admit_to (next_free s.tables.blocks.sequences s.tables.blocks.map) s sequence hash previous arrival
+    else elim (next_free s.tables.blocks.sequences) [ none ↦ refuse s 7 | some i ↦ takes_slot s i sequence hash previous arrival ]
 
 -- ---- promote
 
@@ -156,12 +150,6 @@ under s root =
     if not (shaped s.tables) then refuse s 1
     else if not (occupied b.sequences root) then refuse s 3
     else answering s (hangs (length listed) (highest b.sequences listed))
-
--- ---- occupied total
-
--- how many slots are occupied, by the map (02, S-3); nothing is written
-unfoldable pub occupied_total : (s : State) → Stepped
-occupied_total s = if not (shaped s.tables) then refuse s 1 else answering s (total (map_total s.tables.blocks.map))
 
 -- ---- screen
 
@@ -215,7 +203,7 @@ pub record Sets (said : Answer) (held : BlockSlot) (left : Tables) (rule : Stepp
   pub records : held ≡ rule.after.active_head
   pub leaves : left ≡ rule.after.tables
 
--- ---- lists of calls; fresh is not among them, nor what leaves the tables: under, the occupied total, screen and the deadline
+-- ---- lists of calls; fresh is not among them, nor what leaves the tables: under, screen and the deadline
 
 pub data Call : Type 0 where
   admit_call : (sequence : Sequence) (hash previous : Hash) (arrival : Time) → Call

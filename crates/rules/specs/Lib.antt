@@ -1,7 +1,6 @@
 pub mod Common
 pub mod Kinds
 pub mod Hashes
-pub mod Map
 pub mod Records
 pub mod BlockTable
 pub mod Under

@@ -5,7 +5,7 @@ use Rattle.rules.specs.Hashes.{hash_length}
 use Rattle.rules.specs.Records.{status_of, status_number}
 use Rattle.rules.specs.BlockTable.{minus_one, adjusted}
 use Rattle.rules.specs.Timer.{due, claimed, max_time}
-use Rattle.rules.specs.Answers.{Answer, refused, done, slot, freed, hangs, total, shown, request, none_due, due_at, never_due}
+use Rattle.rules.specs.Answers.{Answer, refused, done, slot, freed, hangs, shown, request, none_due, due_at, never_due}
 use Rattle.rules.specs.Calls.{fresh_state, fresh, admit}
 use Rattle.rules.specs.declared.BlockStatus.TheVariants.{Stored}
 
@@ -24,7 +24,6 @@ refusal done = 0
 refusal (slot i) = 0
 refusal (freed blocks) = 0
 refusal (hangs blocks highest) = 0
-refusal (total blocks) = 0
 refusal (shown rows) = 0
 refusal (request head claims missing) = 0
 refusal none_due = 0

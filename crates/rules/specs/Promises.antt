@@ -1,18 +1,17 @@
 -- Demand 3 (00, and 01 "Lists of calls"): what holds after every list of calls, worked out afresh from the blocks, the
--- calls and their answers; what hangs under a block (02, S-1), beside what `mark_subtree` lists; the head screen (02, S-2); and the
--- map of occupied slots (02, S-3).
-use Rattle.std.specs.Prelude.{◌≡◌, ◌≢◌, ◌⊎◌, ◌↔◌, Bool, true, not, ◌&&◌, List, [], ◌∷◌, ◌++◌, ℕ, suc, ◌+◌, ◌*◌, ◌/◌, ◌%◌, ◌^◌, ◌≤◌, ◌<◌, max, eqb, length, get_or, replicate}
+-- calls and their answers; what hangs under a block (02, S-1), beside what `mark_subtree` lists; and the head screen (02, S-2).
+use Rattle.std.specs.Prelude.{◌≡◌, ◌≢◌, ◌⊎◌, ◌↔◌, Bool, true, not, ◌&&◌, List, [], ◌∷◌, ◌++◌, ℕ, suc, ◌+◌, ◌*◌, ◌%◌, ◌≤◌, ◌<◌, max, eqb, length, get_or, replicate}
 use Rattle.std.proofs.Math.Option.{Option, none, some}
 use Rattle.rules.specs.Kinds.{BlockSlot, HeadSlot, Sequence, Time, Hash}
-use Rattle.rules.specs.Common.{if◌then◌else◌, is_at, lowest, count_below}
+use Rattle.rules.specs.Common.{if◌then◌else◌, is_at, count_below}
 use Rattle.rules.specs.Hashes.{hash_length, hash_at}
 use Rattle.rules.specs.Records.{NONE, Blocks, Tables, empty_block, empty_head, block_at, head_at}
 use Rattle.rules.specs.Caches.{slot_of_head}
 use Rattle.rules.specs.Eviction.{victim}
 use Rattle.rules.specs.Admission.{one_more, first_empty}
 use Rattle.rules.specs.Rebuild.{is_leaf, rebuilt_below, headless}
-use Rattle.rules.specs.Answers.{Answer, refused, done, slot, freed, hangs, total, shown, request, none_due, due_at, never_due}
-use Rattle.rules.specs.Calls.{State, Call, admit_call, promote_call, remove_call, timer_call, restart_call, step, run, shaped, blocks_in, heads_in, parent_found, inserted, fresh, admit_to, admit, under, occupied_total, screen, earliest_deadline}
+use Rattle.rules.specs.Answers.{Answer, refused, done, slot, freed, hangs, shown, request, none_due, due_at, never_due}
+use Rattle.rules.specs.Calls.{State, Call, admit_call, promote_call, remove_call, timer_call, restart_call, step, run, shaped, blocks_in, heads_in, parent_found, inserted, fresh, under, screen}
 use Rattle.rules.specs.BlockTable.{max_count, mark_subtree}
 use Rattle.rules.specs.declared.HeadRow.{HeadRow}
 
@@ -33,14 +32,6 @@ Occupied s i = sequence s i ≢ NONE
 -- bit 0 of the flags
 abbrev pub Active : (s : State) (i : BlockSlot) → Type 0
 Active s i = get_or s.tables.blocks.flags i 0 % 2 ≡ 1
-
--- bit i mod 64 of word i div 64 of the map
-abbrev pub Mapped : (s : State) (i : BlockSlot) → Type 0
-Mapped s i = get_or s.tables.blocks.map (i / 64) 0 / 2 ^ (i % 64) % 2 ≡ 1
-
--- a true map: the bit is set exactly where the slot is occupied. No slot past the last is, so the bits there are zero
-abbrev pub MapTrue : (s : State) → Type 0
-MapTrue s = (i : BlockSlot) → Mapped s i ↔ Occupied s i
 
 abbrev pub tip : (s : State) (k : HeadSlot) → BlockSlot
 tip s k = get_or s.tables.heads.tips k NONE
@@ -138,7 +129,6 @@ slot_returned done = none
 slot_returned (slot i) = some i
 slot_returned (freed blocks) = none
 slot_returned (hangs blocks highest) = none
-slot_returned (total blocks) = none
 slot_returned (shown rows) = none
 slot_returned (request head claims missing) = none
 slot_returned none_due = none
@@ -228,8 +218,6 @@ pub record Promise (log : List Made) (s : State) (calls : List Call) : Type 0 wh
   -- a promoted block is never freed and keeps slot, sequence and hash
   pub stays : (more : List Call) (i : BlockSlot) → Promoted i (log ++ made s calls)
       → Occupied (run s (calls ++ more)) i × Active (run s (calls ++ more)) i × (name (run s (calls ++ more)) i ≡ name (run s calls) i)
-  -- the kept map is true (02, S-3)
-  pub map : MapTrue (run s calls)
   -- whichever call is made next finds a victim when it looks for one
   pub victims : (call : Call) → FindsVictims (run s calls) call
 
@@ -331,36 +319,6 @@ pub record OnScreen (s : State) (room : ℕ) : Type 0 where
   pub others : (k : HeadSlot) → ¬ (InUse s k) → times k heads ≡ 0
   pub ordered : Ordered s heads
 
--- ---- the map of occupied slots (02, S-3)
-
--- a slot that holds no block, as a test
-abbrev pub is_empty : (s : State) (i : BlockSlot) → Bool
-is_empty s i = eqb (sequence s i) NONE
-
--- the lowest empty slot as 01 has it, by the sequences
-abbrev pub lowest_empty : (s : State) → Option BlockSlot
-lowest_empty s = lowest (is_empty s) (blocks_in s.tables)
-
--- how many slots are occupied, by the sequences
-abbrev pub occupied_slots : (s : State) → ℕ
-occupied_slots s = count_below (λ i. not (is_empty s i)) (blocks_in s.tables)
-
--- how a call from s to u writes the map, true or false: a slot that it fills has its bit set, one that it frees has it cleared, and no other
--- bit changes
-pub record WritesMap (s u : State) : Type 0 where
-  pub fills : (i : BlockSlot) → ¬ (Occupied s i) → Occupied u i → Mapped u i
-  pub frees : (i : BlockSlot) → Occupied s i → ¬ (Occupied u i) → ¬ (Mapped u i)
-  pub leaves : (i : BlockSlot) → Occupied s i ↔ Occupied u i → Mapped s i ↔ Mapped u i
-
--- whichever call is made, and whatever it answers, it leaves a true map
-pub record KeepsMap (s : State) : Type 0 where
-  pub by_fresh : MapTrue (fresh s).after
-  pub by_step : (call : Call) → MapTrue (step s call).after
-  pub by_under : (i : BlockSlot) → MapTrue (under s i).after
-  pub by_total : MapTrue (occupied_total s).after
-  pub by_screen : (room : ℕ) → MapTrue (screen s room).after
-  pub by_deadline : (span : Option Time) → MapTrue (earliest_deadline s span).after
-
 -- ---- what is proved
 
 -- demand 3: every list of calls from what an accepted fresh left
@@ -385,20 +343,3 @@ UnderAny = (s : State) → shaped s.tables ≡ true → (i : BlockSlot) → Occu
 -- S-2: of every table of a right shape, and every list that has a place for each head slot
 abbrev pub ScreenAny : Type 0
 ScreenAny = (s : State) → shaped s.tables ≡ true → (room : ℕ) → heads_in s.tables ≤ room → OnScreen s room
-
--- S-3: inserting sets a slot's bit, freeing clears it, and no call of a list writes the map otherwise, of every table and every map
-abbrev pub MapWritten : Type 0
-MapWritten = (s : State) (call : Call) → WritesMap s (step s call).after
-
--- every call keeps a true map true, of every table, damaged or not
-abbrev pub MapKept : Type 0
-MapKept = (s : State) → MapTrue s → KeepsMap s
-
--- with a true map an admission takes the slot that it took before there was one; all else of `admit_to` is as it was
-abbrev pub AdmitAsBefore : Type 0
-AdmitAsBefore = (s : State) → MapTrue s → (given : Sequence) (hash previous : Hash) (arrival : Time)
-    → admit s given hash previous arrival ≡ admit_to (lowest_empty s) s given hash previous arrival
-
--- and the total is the number of occupied slots
-abbrev pub TotalTrue : Type 0
-TotalTrue = (s : State) → shaped s.tables ≡ true → MapTrue s → (occupied_total s).answer ≡ total (occupied_slots s)

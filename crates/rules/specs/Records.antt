@@ -5,7 +5,6 @@ use Rattle.rules.specs.Common.{if◌then◌else◌, is_some, lowest, count_below
 use denote.Triple.Both.{Both}
 use Rattle.std.specs.Borrow.{Bor}
 use Rattle.rules.specs.Hashes.{hash_length, zero_hash, hash_at, put_hash}
-use Rattle.rules.specs.Map.{word_bits, words_for, put_bit}
 use Rattle.rules.specs.declared.Block.{Block}
 use Rattle.rules.specs.declared.Head.{Head}
 use Rattle.rules.specs.declared.BlockStatus.{BlockStatus}
@@ -23,7 +22,6 @@ pub record Blocks : Type 0 where
   pub sequences : List ℕ
   pub counts : List ℕ
   pub flags : List ℕ
-  pub map : List ℕ
 
 pub record Heads : Type 0 where
   pub tips : List ℕ
@@ -37,14 +35,14 @@ pub record Tables : Type 0 where
   pub blocks : Blocks
   pub heads : Heads
 
-abbrev pub blocks_of : (hashes parents sequences counts flags map : List ℕ) → Blocks
-blocks_of h p s c f o = record { hashes = h; parents = p; sequences = s; counts = c; flags = f; map = o }
+abbrev pub blocks_of : (hashes parents sequences counts flags : List ℕ) → Blocks
+blocks_of h p s c f = record { hashes = h; parents = p; sequences = s; counts = c; flags = f }
 
 abbrev pub heads_of : (tips tails missing requested arrivals connected : List ℕ) → Heads
 heads_of t l m r a c = record { tips = t; tails = l; missing = m; requested = r; arrivals = a; connected = c }
 
-abbrev pub tables_of : (hashes parents sequences counts flags map tips tails missing requested arrivals connected : List ℕ) → Tables
-tables_of h p s c f o t l m r a k = record { blocks = blocks_of h p s c f o; heads = heads_of t l m r a k }
+abbrev pub tables_of : (hashes parents sequences counts flags tips tails missing requested arrivals connected : List ℕ) → Tables
+tables_of h p s c f t l m r a k = record { blocks = blocks_of h p s c f; heads = heads_of t l m r a k }
 
 -- what the caches are kept in; tips and arrival times are not among them
 pub record Caches : Type 0 where
@@ -61,11 +59,11 @@ caches_of l m r c = record { tails = l; missing = m; requested = r; connected = 
 abbrev pub Lent : Type 0
 Lent = Both (Bor (List ℕ)) (Bor (List ℕ))
 
-abbrev pub blocks_before : (hashes parents sequences counts flags map : Lent) → Blocks
-blocks_before h p s c f o = blocks_of h.entry.now p.entry.now s.entry.now c.entry.now f.entry.now o.entry.now
+abbrev pub blocks_before : (hashes parents sequences counts flags : Lent) → Blocks
+blocks_before h p s c f = blocks_of h.entry.now p.entry.now s.entry.now c.entry.now f.entry.now
 
-abbrev pub blocks_after : (hashes parents sequences counts flags map : Lent) → Blocks
-blocks_after h p s c f o = blocks_of h.exit.now p.exit.now s.exit.now c.exit.now f.exit.now o.exit.now
+abbrev pub blocks_after : (hashes parents sequences counts flags : Lent) → Blocks
+blocks_after h p s c f = blocks_of h.exit.now p.exit.now s.exit.now c.exit.now f.exit.now
 
 abbrev pub heads_before : (tips tails missing requested arrivals connected : Lent) → Heads
 heads_before t l m r a c = heads_of t.entry.now l.entry.now m.entry.now r.entry.now a.entry.now c.entry.now
@@ -79,11 +77,11 @@ caches_before l m r c = caches_of l.entry.now m.entry.now r.entry.now c.entry.no
 abbrev pub caches_after : (tails missing requested connected : Lent) → Caches
 caches_after l m r c = caches_of l.exit.now m.exit.now r.exit.now c.exit.now
 
-abbrev pub before : (hashes parents sequences counts flags map tips tails missing requested arrivals connected : Lent) → Tables
-before h p s c f o t l m r a k = record { blocks = blocks_before h p s c f o; heads = heads_before t l m r a k }
+abbrev pub before : (hashes parents sequences counts flags tips tails missing requested arrivals connected : Lent) → Tables
+before h p s c f t l m r a k = record { blocks = blocks_before h p s c f; heads = heads_before t l m r a k }
 
-abbrev pub after : (hashes parents sequences counts flags map tips tails missing requested arrivals connected : Lent) → Tables
-after h p s c f o t l m r a k = record { blocks = blocks_after h p s c f o; heads = heads_after t l m r a k }
+abbrev pub after : (hashes parents sequences counts flags tips tails missing requested arrivals connected : Lent) → Tables
+after h p s c f t l m r a k = record { blocks = blocks_after h p s c f; heads = heads_after t l m r a k }
 
 -- ---- one field or one table is another
 
@@ -94,13 +92,13 @@ abbrev pub with_heads : (t : Tables) (h : Heads) → Tables
 with_heads t h = record { blocks = t.blocks; heads = h }
 
 abbrev pub with_parents : (b : Blocks) (parents : List ℕ) → Blocks
-with_parents b parents = record { hashes = b.hashes; parents = parents; sequences = b.sequences; counts = b.counts; flags = b.flags; map = b.map }
+with_parents b parents = record { hashes = b.hashes; parents = parents; sequences = b.sequences; counts = b.counts; flags = b.flags }
 
 abbrev pub with_counts : (b : Blocks) (counts : List ℕ) → Blocks
-with_counts b counts = record { hashes = b.hashes; parents = b.parents; sequences = b.sequences; counts = counts; flags = b.flags; map = b.map }
+with_counts b counts = record { hashes = b.hashes; parents = b.parents; sequences = b.sequences; counts = counts; flags = b.flags }
 
 abbrev pub with_flags : (b : Blocks) (flags : List ℕ) → Blocks
-with_flags b flags = record { hashes = b.hashes; parents = b.parents; sequences = b.sequences; counts = b.counts; flags = flags; map = b.map }
+with_flags b flags = record { hashes = b.hashes; parents = b.parents; sequences = b.sequences; counts = b.counts; flags = flags }
 
 abbrev pub with_tips : (h : Heads) (tips : List ℕ) → Heads
 with_tips h tips = record { tips = tips; tails = h.tails; missing = h.missing; requested = h.requested; arrivals = h.arrivals; connected = h.connected }
@@ -122,10 +120,6 @@ with_caches h c = record { tips = h.tips; tails = c.tails; missing = c.missing; 
 -- how many slots a field has; NONE_REF names none, so no table has more than that
 unfoldable pub slots_of : (field : List ℕ) → ℕ
 slots_of field = min (length field) NONE
-
--- how many of a map's words are used: those whose bits all have numbers below NONE_REF. A call has 16 at most
-unfoldable pub words_of : (map : List ℕ) → ℕ
-words_of map = min (length map) (NONE / word_bits)
 
 -- ---- cells; past the end of a field stands what an empty record has
 
@@ -231,7 +225,6 @@ head_at h k = record {
   connected = get_or h.connected k 0;
 }
 
--- the slot's bit in the map tells whether it then holds a block (02, S-3): one of the reserved sequence leaves it empty
 unfoldable pub put_block : (b : Blocks) (i : BlockSlot) (block : Block) → Blocks
 put_block b i block = record {
   hashes = put_hash b.hashes i block.hash;
@@ -239,7 +232,6 @@ put_block b i block = record {
   sequences = set b.sequences i block.sequence.0;
   counts = set b.counts i block.count;
   flags = set b.flags i block.flags;
-  map = put_bit b.map i (not (eqb block.sequence.0 NONE));
 }
 
 unfoldable pub put_head : (h : Heads) (k : HeadSlot) (head : Head) → Heads
@@ -268,7 +260,6 @@ empty_blocks n = record {
   sequences = replicate n NONE;
   counts = replicate n 0;
   flags = replicate n 0;
-  map = replicate (words_for n) 0;
 }
 
 unfoldable pub empty_heads : (m : ℕ) → Heads
@@ -289,7 +280,6 @@ blocks_emptied b = record {
   sequences = replicate (length b.sequences) NONE;
   counts = replicate (length b.counts) 0;
   flags = replicate (length b.flags) 0;
-  map = replicate (length b.map) 0;
 }
 
 abbrev pub heads_emptied : (h : Heads) → Heads
@@ -302,12 +292,11 @@ heads_emptied h = record {
   connected = replicate (length h.connected) 0;
 }
 
--- ---- the lengths: a field has one cell for each slot, hashes have 32 bytes, and the map has a bit for each slot, in the fewest words
+-- ---- the lengths: a field has one cell for each slot, hashes have 32 bytes
 
 unfoldable pub blocks_fit : (b : Blocks) (n : ℕ) → Bool
 blocks_fit b n =
     eqb (length b.hashes) (n * hash_length) && eqb (length b.sequences) n && eqb (length b.counts) n && eqb (length b.flags) n
-    && eqb (length b.map) (words_for n)
 
 unfoldable pub heads_fit : (h : Heads) (m : ℕ) → Bool
 heads_fit h m =

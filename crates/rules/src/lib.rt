@@ -235,13 +235,6 @@ pub enum Hanging {
     Refused(Refusal),
 }
 
-// The answer of occupied total: how many slots are occupied, by the map.
-#[derive(Drop)]
-pub enum Total {
-    Blocks(u32),
-    Refused(Refusal),
-}
-
 // A record of the head screen: a head's tip, the tip's sequence, which is NONE_REF where the tip is empty, its kind and its anchor.
 #[repr(C)]
 #[derive(Drop)]

@@ -9,9 +9,8 @@ fn blocks_fit(
     sequences: &[u32],
     counts: &[u8],
     flags: &[u8],
-    map: &[u64],
 ) -> bool
-    ensures { result ≡ blocks_fit (blocks_before hashes parents sequences counts flags map) (length parents.now) }
+    ensures { result ≡ blocks_fit (blocks_before hashes parents sequences counts flags) (length parents.now) }
 {
     let n = parents.len();
     if hashes.len() / 32 != n {
@@ -27,9 +26,6 @@ fn blocks_fit(
         return false;
     }
     if flags.len() != n {
-        return false;
-    }
-    if map.len() != (n + 63) / 64 {
         return false;
     }
     true
@@ -74,7 +70,6 @@ pub fn is_shaped(
     sequences: &[u32],
     counts: &[u8],
     flags: &[u8],
-    map: &[u64],
     tips: &[u32],
     tails: &[u32],
     missing: &[u8],
@@ -82,7 +77,7 @@ pub fn is_shaped(
     arrivals: &[u64],
     connected: &[u8],
 ) -> bool
-    ensures { result ≡ shaped (before hashes parents sequences counts flags map tips tails missing requested arrivals connected) }
+    ensures { result ≡ shaped (before hashes parents sequences counts flags tips tails missing requested arrivals connected) }
 {
     let n = parents.len();
     let m = tips.len();
@@ -98,7 +93,7 @@ pub fn is_shaped(
     if 64 < m {
         return false;
     }
-    if !blocks_fit(hashes, parents, sequences, counts, flags, map) {
+    if !blocks_fit(hashes, parents, sequences, counts, flags) {
         return false;
     }
     heads_fit(tips, tails, missing, requested, arrivals, connected)

@@ -1,10 +1,10 @@
 // Looking at the blocks.
-ghost use Rattle.std.specs.Prelude.{◌≡◌, ℕ, length, List, [], ◌∷◌};
+ghost use Rattle.std.specs.Prelude.{◌≡◌, length, [], ◌∷◌};
 ghost use Rattle.std.proofs.lemmas.List.Edits.{sets};
 ghost use Rattle.query_numbers.specs.Numbers.{or_none, yes};
 ghost use Rattle.station.specs.Blocks.{Gets};
 ghost use Rattle.rules.specs.Hashes.{hash_at};
-ghost use Rattle.rules.specs.Records.{blocks_of};
+ghost use Rattle.rules.specs.Records.{blocks_before};
 ghost use Rattle.rules.specs.BlockTable.{find, next_free, find_parent, get, head_ref_count, status_at, mark_subtree, walks_to_active_chain};
 
 use query_numbers::{counted, found, said, status_found};
@@ -32,12 +32,12 @@ pub extern "C" fn station_find(hashes: &[u8], sequences: &[u32], sequence: u32, 
     ))
 }
 
-// The lowest free slot by the map, where it is a slot of the table and empty; NONE_REF is none.
+// The lowest empty slot; NONE_REF is none.
 #[unsafe(no_mangle)]
-pub extern "C" fn station_next_free_index(sequences: &[u32], map: &[u64]) -> u32
-    ensures { result ≡ or_none (next_free sequences.now map.now) }
+pub extern "C" fn station_next_free_index(sequences: &[u32]) -> u32
+    ensures { result ≡ or_none (next_free sequences.now) }
 {
-    found(blocks::next_free_index(sequences, map))
+    found(blocks::next_free_index(sequences))
 }
 
 // The lowest slot with the sequence one lower and the previous hash; NONE_REF is none, and sequence 0 has none.
@@ -72,11 +72,8 @@ pub extern "C" fn station_get(
     hash: &mut [u8],
     words: &mut [u32],
 ) -> u32
-    ensures { (map : List ℕ) → Gets
-        (get
-        (blocks_of hashes.now parents.now sequences.now counts.now flags.now map)
-        slot)
-        hash.old words.old result hash.new words.new }
+    ensures { Gets (get (blocks_before hashes parents sequences counts flags) slot) hash.old words.old result
+        hash.new words.new }
 {
     let got = block_reading::get(hashes, parents, sequences, counts, flags, BlockSlot(slot));
     if got.there {

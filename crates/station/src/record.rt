@@ -22,7 +22,6 @@ fn promote_kept(
     sequences: &[u32],
     counts: &[u8],
     flags: &mut [u8],
-    map: &[u64],
     tips: &[u32],
     tails: &mut [u32],
     missing: &mut [u8],
@@ -33,9 +32,9 @@ fn promote_kept(
     slot: u32,
 ) -> Kept
     ensures { GivesAndSets result.answer result.active.0
-        (after hashes parents sequences counts flags map tips tails missing requested arrivals connected)
+        (after hashes parents sequences counts flags tips tails missing requested arrivals connected)
         (promote_rule
-        (state_of (before hashes parents sequences counts flags map tips tails missing requested arrivals connected) active.0)
+        (state_of (before hashes parents sequences counts flags tips tails missing requested arrivals connected) active.0)
         slot) }
 {
     let recorded = promote(
@@ -44,7 +43,6 @@ fn promote_kept(
         sequences,
         counts,
         flags,
-        map,
         tips,
         tails,
         missing,
@@ -68,7 +66,6 @@ fn fresh_kept(
     sequences: &mut [u32],
     counts: &mut [u8],
     flags: &mut [u8],
-    map: &mut [u64],
     tips: &mut [u32],
     tails: &mut [u32],
     missing: &mut [u8],
@@ -78,12 +75,12 @@ fn fresh_kept(
     active: BlockSlot,
 ) -> Kept
     ensures { GivesAndSets result.answer result.active.0
-        (after hashes parents sequences counts flags map tips tails missing requested arrivals connected)
+        (after hashes parents sequences counts flags tips tails missing requested arrivals connected)
         (fresh_rule
-        (state_of (before hashes parents sequences counts flags map tips tails missing requested arrivals connected) active.0)) }
+        (state_of (before hashes parents sequences counts flags tips tails missing requested arrivals connected) active.0)) }
 {
     let recorded = fresh(
-        hashes, parents, sequences, counts, flags, map, tips, tails, missing, requested, arrivals,
+        hashes, parents, sequences, counts, flags, tips, tails, missing, requested, arrivals,
         connected, active,
     );
     let outcome = recorded.outcome;
@@ -102,7 +99,6 @@ pub extern "C" fn station_promote(
     sequences: &[u32],
     counts: &[u8],
     flags: &mut [u8],
-    map: &[u64],
     tips: &[u32],
     tails: &mut [u32],
     missing: &mut [u8],
@@ -113,14 +109,14 @@ pub extern "C" fn station_promote(
     slot: u32,
 ) -> u64
     ensures { GivesAndSets result held.new.slot.0
-        (after hashes parents sequences counts flags map tips tails missing requested arrivals connected)
+        (after hashes parents sequences counts flags tips tails missing requested arrivals connected)
         (promote_rule
-        (state_of (before hashes parents sequences counts flags map tips tails missing requested arrivals connected)
+        (state_of (before hashes parents sequences counts flags tips tails missing requested arrivals connected)
         held.old.slot.0)
         slot) }
 {
     let promoted = promote_kept(
-        hashes, parents, sequences, counts, flags, map, tips, tails, missing, requested, arrivals,
+        hashes, parents, sequences, counts, flags, tips, tails, missing, requested, arrivals,
         connected, held.slot, slot,
     );
     held.slot = promoted.active;
@@ -135,7 +131,6 @@ pub extern "C" fn station_fresh(
     sequences: &mut [u32],
     counts: &mut [u8],
     flags: &mut [u8],
-    map: &mut [u64],
     tips: &mut [u32],
     tails: &mut [u32],
     missing: &mut [u8],
@@ -145,13 +140,13 @@ pub extern "C" fn station_fresh(
     held: &mut ActiveHead,
 ) -> u64
     ensures { GivesAndSets result held.new.slot.0
-        (after hashes parents sequences counts flags map tips tails missing requested arrivals connected)
+        (after hashes parents sequences counts flags tips tails missing requested arrivals connected)
         (fresh_rule
-        (state_of (before hashes parents sequences counts flags map tips tails missing requested arrivals connected)
+        (state_of (before hashes parents sequences counts flags tips tails missing requested arrivals connected)
         held.old.slot.0)) }
 {
     let emptied = fresh_kept(
-        hashes, parents, sequences, counts, flags, map, tips, tails, missing, requested, arrivals,
+        hashes, parents, sequences, counts, flags, tips, tails, missing, requested, arrivals,
         connected, held.slot,
     );
     held.slot = emptied.active;

@@ -16,7 +16,6 @@ pub extern "C" fn station_timer(
     sequences: &[u32],
     counts: &[u8],
     flags: &[u8],
-    map: &[u64],
     tips: &[u32],
     tails: &[u32],
     missing: &[u8],
@@ -30,9 +29,9 @@ pub extern "C" fn station_timer(
     wanted: &mut [u8],
 ) -> u64
     ensures { (active_head : ℕ) → Asks result claimed wanted
-        (after hashes parents sequences counts flags map tips tails missing requested arrivals connected)
+        (after hashes parents sequences counts flags tips tails missing requested arrivals connected)
         (timer_rule
-        (state_of (before hashes parents sequences counts flags map tips tails missing requested arrivals connected) active_head)
+        (state_of (before hashes parents sequences counts flags tips tails missing requested arrivals connected) active_head)
         clock (span_from given span)) }
 {
     let answer = timer(
@@ -41,7 +40,6 @@ pub extern "C" fn station_timer(
         sequences,
         counts,
         flags,
-        map,
         tips,
         tails,
         missing,
@@ -65,7 +63,6 @@ pub extern "C" fn station_earliest_deadline(
     sequences: &[u32],
     counts: &[u8],
     flags: &[u8],
-    map: &[u64],
     tips: &[u32],
     tails: &[u32],
     missing: &[u8],
@@ -77,9 +74,9 @@ pub extern "C" fn station_earliest_deadline(
     time: &mut [u64],
 ) -> u64
     ensures { (active_head : ℕ) → Waits result time
-        (after hashes parents sequences counts flags map tips tails missing requested arrivals connected)
+        (after hashes parents sequences counts flags tips tails missing requested arrivals connected)
         (earliest_deadline
-        (state_of (before hashes parents sequences counts flags map tips tails missing requested arrivals connected) active_head)
+        (state_of (before hashes parents sequences counts flags tips tails missing requested arrivals connected) active_head)
         (span_from given span)) }
 {
     deadline_number(
@@ -89,7 +86,6 @@ pub extern "C" fn station_earliest_deadline(
             sequences,
             counts,
             flags,
-            map,
             tips,
             tails,
             missing,

@@ -16,7 +16,6 @@ pub extern "C" fn station_restart(
     sequences: &mut [u32],
     counts: &mut [u8],
     flags: &mut [u8],
-    map: &mut [u64],
     tips: &mut [u32],
     tails: &mut [u32],
     missing: &mut [u8],
@@ -27,9 +26,9 @@ pub extern "C" fn station_restart(
     clock: u64,
 ) -> u64
     ensures { Gives result
-        (after hashes parents sequences counts flags map tips tails missing requested arrivals connected)
+        (after hashes parents sequences counts flags tips tails missing requested arrivals connected)
         (restart_rule
-        (state_of (before hashes parents sequences counts flags map tips tails missing requested arrivals connected) active)
+        (state_of (before hashes parents sequences counts flags tips tails missing requested arrivals connected) active)
         clock) }
 {
     outcome_number(restart(
@@ -38,7 +37,6 @@ pub extern "C" fn station_restart(
         sequences,
         counts,
         flags,
-        map,
         tips,
         tails,
         missing,

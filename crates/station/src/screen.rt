@@ -32,7 +32,6 @@ fn list_rows(
     sequences: &[u32],
     counts: &[u8],
     flags: &[u8],
-    map: &[u64],
     tips: &[u32],
     tails: &[u32],
     missing: &[u8],
@@ -43,14 +42,14 @@ fn list_rows(
     keys: &mut [u64; 64],
 ) -> Listed
     ensures { (active_head : ℕ) → Lists result keys.new
-        (before hashes parents sequences counts flags map tips tails missing requested arrivals connected)
-        (after hashes parents sequences counts flags map tips tails missing requested arrivals connected) room
+        (before hashes parents sequences counts flags tips tails missing requested arrivals connected)
+        (after hashes parents sequences counts flags tips tails missing requested arrivals connected) room
         (screen_rule
-        (state_of (before hashes parents sequences counts flags map tips tails missing requested arrivals connected) active_head)
+        (state_of (before hashes parents sequences counts flags tips tails missing requested arrivals connected) active_head)
         room) }
 {
     let screened = screen(
-        hashes, parents, sequences, counts, flags, map, tips, tails, missing, requested, arrivals,
+        hashes, parents, sequences, counts, flags, tips, tails, missing, requested, arrivals,
         connected, room, keys,
     );
     Listed {
@@ -68,7 +67,6 @@ pub extern "C" fn station_screen(
     sequences: &[u32],
     counts: &[u8],
     flags: &[u8],
-    map: &[u64],
     tips: &[u32],
     tails: &[u32],
     missing: &[u8],
@@ -78,9 +76,9 @@ pub extern "C" fn station_screen(
     rows: &mut [HeadRow],
 ) -> u64
     ensures { (active_head : ℕ) → Shows result rows
-        (after hashes parents sequences counts flags map tips tails missing requested arrivals connected)
+        (after hashes parents sequences counts flags tips tails missing requested arrivals connected)
         (screen_rule
-        (state_of (before hashes parents sequences counts flags map tips tails missing requested arrivals connected) active_head)
+        (state_of (before hashes parents sequences counts flags tips tails missing requested arrivals connected) active_head)
         (length rows.old)) }
 {
     let mut keys = [0u64; 64];
@@ -90,7 +88,6 @@ pub extern "C" fn station_screen(
         sequences,
         counts,
         flags,
-        map,
         tips,
         tails,
         missing,

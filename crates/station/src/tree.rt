@@ -1,14 +1,13 @@
-// Admit, remove, how much hangs under a block, and how many slots are occupied.
+// Admit, remove, and how much hangs under a block.
 ghost use Rattle.std.specs.Prelude.{◌≡◌, ℕ};
 ghost use Rattle.rules.specs.Records.{before, after};
-ghost use Rattle.rules.specs.Calls.{state_of, admit as admit_rule, remove as remove_rule, under as under_rule, occupied_total as total_rule};
+ghost use Rattle.rules.specs.Calls.{state_of, admit as admit_rule, remove as remove_rule, under as under_rule};
 ghost use Rattle.call_numbers.specs.Numbers.{Gives, Hangs};
 
 use admit_call::admit;
-use call_numbers::{admitted_number, hanging_number, removed_number, total_number};
+use call_numbers::{admitted_number, hanging_number, removed_number};
 use remove_call::remove;
 use rules::{BlockSlot, Sequence};
-use total_call::occupied_total;
 use under_call::under;
 
 // Inserts the block and answers with its slot; a refusal in the upper half changes nothing. `active` is the record's slot.
@@ -19,7 +18,6 @@ pub extern "C" fn station_admit(
     sequences: &mut [u32],
     counts: &mut [u8],
     flags: &mut [u8],
-    map: &mut [u64],
     tips: &mut [u32],
     tails: &mut [u32],
     missing: &mut [u8],
@@ -33,9 +31,9 @@ pub extern "C" fn station_admit(
     arrival: u64,
 ) -> u64
     ensures { Gives result
-        (after hashes parents sequences counts flags map tips tails missing requested arrivals connected)
+        (after hashes parents sequences counts flags tips tails missing requested arrivals connected)
         (admit_rule
-        (state_of (before hashes parents sequences counts flags map tips tails missing requested arrivals connected) active)
+        (state_of (before hashes parents sequences counts flags tips tails missing requested arrivals connected) active)
         sequence hash.now previous.now arrival) }
 {
     admitted_number(admit(
@@ -44,7 +42,6 @@ pub extern "C" fn station_admit(
         sequences,
         counts,
         flags,
-        map,
         tips,
         tails,
         missing,
@@ -67,7 +64,6 @@ pub extern "C" fn station_remove(
     sequences: &mut [u32],
     counts: &mut [u8],
     flags: &mut [u8],
-    map: &mut [u64],
     tips: &mut [u32],
     tails: &mut [u32],
     missing: &mut [u8],
@@ -77,9 +73,9 @@ pub extern "C" fn station_remove(
     root: u32,
 ) -> u64
     ensures { (active_head : ℕ) → Gives result
-        (after hashes parents sequences counts flags map tips tails missing requested arrivals connected)
+        (after hashes parents sequences counts flags tips tails missing requested arrivals connected)
         (remove_rule
-        (state_of (before hashes parents sequences counts flags map tips tails missing requested arrivals connected) active_head)
+        (state_of (before hashes parents sequences counts flags tips tails missing requested arrivals connected) active_head)
         root) }
 {
     removed_number(remove(
@@ -88,7 +84,6 @@ pub extern "C" fn station_remove(
         sequences,
         counts,
         flags,
-        map,
         tips,
         tails,
         missing,
@@ -108,7 +103,6 @@ pub extern "C" fn station_under(
     sequences: &[u32],
     counts: &[u8],
     flags: &[u8],
-    map: &[u64],
     tips: &[u32],
     tails: &[u32],
     missing: &[u8],
@@ -119,9 +113,9 @@ pub extern "C" fn station_under(
     highest: &mut [u32],
 ) -> u64
     ensures { (active_head : ℕ) → Hangs result highest
-        (after hashes parents sequences counts flags map tips tails missing requested arrivals connected)
+        (after hashes parents sequences counts flags tips tails missing requested arrivals connected)
         (under_rule
-        (state_of (before hashes parents sequences counts flags map tips tails missing requested arrivals connected) active_head)
+        (state_of (before hashes parents sequences counts flags tips tails missing requested arrivals connected) active_head)
         slot) }
 {
     hanging_number(
@@ -131,7 +125,6 @@ pub extern "C" fn station_under(
             sequences,
             counts,
             flags,
-            map,
             tips,
             tails,
             missing,
@@ -142,32 +135,4 @@ pub extern "C" fn station_under(
         ),
         highest,
     )
-}
-
-// How many slots are occupied, by the map; a refusal stands in the upper half.
-#[unsafe(no_mangle)]
-pub extern "C" fn station_occupied_total(
-    hashes: &[u8],
-    parents: &[u32],
-    sequences: &[u32],
-    counts: &[u8],
-    flags: &[u8],
-    map: &[u64],
-    tips: &[u32],
-    tails: &[u32],
-    missing: &[u8],
-    requested: &[u64],
-    arrivals: &[u64],
-    connected: &[u8],
-) -> u64
-    ensures { (active_head : ℕ) → Gives result
-        (after hashes parents sequences counts flags map tips tails missing requested arrivals connected)
-        (total_rule
-        (state_of (before hashes parents sequences counts flags map tips tails missing requested arrivals connected) active_head)) }
-{
-    let total = occupied_total(
-        hashes, parents, sequences, counts, flags, map, tips, tails, missing, requested, arrivals,
-        connected,
-    );
-    total_number(total)
 }

@@ -36,7 +36,6 @@ fn refresh_outgrown(
     sequences: &[u32],
     counts: &[u8],
     flags: &[u8],
-    map: &[u64],
     tips: &[u32],
     tails: &mut [u32],
     missing: &mut [u8],
@@ -46,7 +45,7 @@ fn refresh_outgrown(
     head: HeadSlot,
 )
     ensures { heads_after tips tails missing requested arrivals connected
-        ≡ refresh_outgrown (blocks_before hashes parents sequences counts flags map) head.0
+        ≡ refresh_outgrown (blocks_before hashes parents sequences counts flags) head.0
         (heads_before tips tails missing requested arrivals connected) }
 {
     if has_outgrown(parents, sequences, tips, tails, connected, head) {
@@ -64,7 +63,6 @@ pub fn refresh_tails(
     sequences: &[u32],
     counts: &[u8],
     flags: &[u8],
-    map: &[u64],
     tips: &[u32],
     tails: &mut [u32],
     missing: &mut [u8],
@@ -72,8 +70,8 @@ pub fn refresh_tails(
     arrivals: &[u64],
     connected: &mut [u8],
 )
-    ensures { after hashes parents sequences counts flags map tips tails missing requested arrivals connected
-        ≡ refresh_tails (before hashes parents sequences counts flags map tips tails missing requested arrivals connected) }
+    ensures { after hashes parents sequences counts flags tips tails missing requested arrivals connected
+        ≡ refresh_tails (before hashes parents sequences counts flags tips tails missing requested arrivals connected) }
 {
     let m = slots(tips);
     let mut k: u32 = 0;
@@ -84,7 +82,6 @@ pub fn refresh_tails(
             sequences,
             counts,
             flags,
-            map,
             tips,
             tails,
             missing,

@@ -21,7 +21,6 @@ A line is a letter and its fields, each after one space. It prints:
                 the highest sequence among them
   V             V, tip, its sequence, state and anchor for each head in use, the
                 highest sequence first and of equal ones the lowest hash
-  O             O and how many block slots are occupied
   T now retry   T, the head to ask for, the claimed sequence and the missing
                 hash; T - where no head is due
   R now         R; heads and counts are made anew from the blocks

@@ -35,7 +35,6 @@ pub fn run(fd: i32, name: &[u8]) {
     let mut sequences = [0u32; 1025];
     let mut counts = [0u8; 1025];
     let mut flags = [0u8; 1025];
-    let mut map = [0u64; 17];
     let mut tips = [0u32; 65];
     let mut tails = [0u32; 65];
     let mut missing = [0u8; 2080];
@@ -68,7 +67,6 @@ pub fn run(fd: i32, name: &[u8]) {
             &mut sequences,
             &mut counts,
             &mut flags,
-            &mut map,
             &mut tips,
             &mut tails,
             &mut missing,
@@ -95,7 +93,6 @@ pub fn run(fd: i32, name: &[u8]) {
         &mut sequences,
         &mut counts,
         &mut flags,
-        &mut map,
         &mut tips,
         &mut tails,
         &mut missing,

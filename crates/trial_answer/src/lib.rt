@@ -6,7 +6,7 @@ ghost use Rattle.trial_calls.specs.Calling.{Tells};
 use rules::BlockSlot;
 use trial_calls::{
     Told, tell_admit, tell_fresh, tell_promote, tell_remove, tell_restart, tell_screen, tell_timer,
-    tell_total, tell_under, tell_unread,
+    tell_under, tell_unread,
 };
 use trial_lines::Line;
 
@@ -17,7 +17,6 @@ pub fn answer(
     sequences: &mut [u32],
     counts: &mut [u8],
     flags: &mut [u8],
-    map: &mut [u64],
     tips: &mut [u32],
     tails: &mut [u32],
     missing: &mut [u8],
@@ -30,47 +29,43 @@ pub fn answer(
     at: usize,
 ) -> Told
     ensures { Tells
-        (state_of (before hashes parents sequences counts flags map tips tails missing requested arrivals connected) active.0) line
+        (state_of (before hashes parents sequences counts flags tips tails missing requested arrivals connected) active.0) line
         out.old at
-        (state_of (after hashes parents sequences counts flags map tips tails missing requested arrivals connected) result.active.0)
+        (state_of (after hashes parents sequences counts flags tips tails missing requested arrivals connected) result.active.0)
         result.renewed out.new result.at }
 {
     match line {
         Line::Fresh(_, _) => tell_fresh(
-            hashes, parents, sequences, counts, flags, map, tips, tails, missing, requested,
-            arrivals, connected, active, out, at,
+            hashes, parents, sequences, counts, flags, tips, tails, missing, requested, arrivals,
+            connected, active, out, at,
         ),
         Line::Admit(sequence, hash, previous, arrival) => tell_admit(
-            hashes, parents, sequences, counts, flags, map, tips, tails, missing, requested,
-            arrivals, connected, active, sequence, hash, previous, arrival, out, at,
+            hashes, parents, sequences, counts, flags, tips, tails, missing, requested, arrivals,
+            connected, active, sequence, hash, previous, arrival, out, at,
         ),
         Line::Promote(slot) => tell_promote(
-            hashes, parents, sequences, counts, flags, map, tips, tails, missing, requested,
-            arrivals, connected, active, slot, out, at,
+            hashes, parents, sequences, counts, flags, tips, tails, missing, requested, arrivals,
+            connected, active, slot, out, at,
         ),
         Line::Remove(slot) => tell_remove(
-            hashes, parents, sequences, counts, flags, map, tips, tails, missing, requested,
-            arrivals, connected, active, slot, out, at,
+            hashes, parents, sequences, counts, flags, tips, tails, missing, requested, arrivals,
+            connected, active, slot, out, at,
         ),
         Line::Under(slot) => tell_under(
-            hashes, parents, sequences, counts, flags, map, tips, tails, missing, requested,
-            arrivals, connected, active, slot, out, at,
+            hashes, parents, sequences, counts, flags, tips, tails, missing, requested, arrivals,
+            connected, active, slot, out, at,
         ),
         Line::Screen => tell_screen(
-            hashes, parents, sequences, counts, flags, map, tips, tails, missing, requested,
-            arrivals, connected, active, out, at,
-        ),
-        Line::Total => tell_total(
-            hashes, parents, sequences, counts, flags, map, tips, tails, missing, requested,
-            arrivals, connected, active, out, at,
+            hashes, parents, sequences, counts, flags, tips, tails, missing, requested, arrivals,
+            connected, active, out, at,
         ),
         Line::Timer(clock, retry) => tell_timer(
-            hashes, parents, sequences, counts, flags, map, tips, tails, missing, requested,
-            arrivals, connected, active, clock, retry, out, at,
+            hashes, parents, sequences, counts, flags, tips, tails, missing, requested, arrivals,
+            connected, active, clock, retry, out, at,
         ),
         Line::Restart(clock) => tell_restart(
-            hashes, parents, sequences, counts, flags, map, tips, tails, missing, requested,
-            arrivals, connected, active, clock, out, at,
+            hashes, parents, sequences, counts, flags, tips, tails, missing, requested, arrivals,
+            connected, active, clock, out, at,
         ),
         Line::Unread => tell_unread(active, out, at),
     }

@@ -10,14 +10,14 @@ use Rattle.rules.specs.Hashes.{hash_length}
 use Rattle.rules.specs.Records.{slots_of, used, occupied}
 use Rattle.rules.specs.Screen.{stands_before, standing, row_of, screen_of}
 use Rattle.rules.specs.Timer.{Ask, span_or, recovery}
-use Rattle.rules.specs.Answers.{Answer, refused, done, slot, freed, hangs, total, shown, request, none_due, due_at, never_due}
-use Rattle.rules.specs.Calls.{State, Stepped, max_heads, heads_in, shaped, fresh, admit, is_next, promote, holds_active, remove, under, occupied_total, screen, asked, timer, restart, step}
+use Rattle.rules.specs.Answers.{Answer, refused, done, slot, freed, hangs, shown, request, none_due, due_at, never_due}
+use Rattle.rules.specs.Calls.{State, Stepped, max_heads, heads_in, shaped, fresh, admit, is_next, promote, holds_active, remove, under, screen, asked, timer, restart, step}
 use Rattle.rules.proofs.Splits.{split}
 use Rattle.rules.proofs.Placed.{below-few}
 use Rattle.rules.proofs.Refusals.{admit?}
 use Rattle.rules.proofs.Kept.Shaped.{shaped-shape}
 use Rattle.trial_lines.specs.declared.Line.{Line}
-use Rattle.trial_lines.specs.declared.Line.TheVariants.{Fresh, Admit, Promote, Remove, Under, Screen, Total, Timer, Restart, Unread}
+use Rattle.trial_lines.specs.declared.Line.TheVariants.{Fresh, Admit, Promote, Remove, Under, Screen, Timer, Restart, Unread}
 use Rattle.trial_calls.specs.Calling.{called}
 
 abbrev pub rows_shown : Answer → ℕ
@@ -27,7 +27,6 @@ rows_shown done = 0
 rows_shown (slot new) = 0
 rows_shown (freed blocks) = 0
 rows_shown (hangs blocks highest) = 0
-rows_shown (total blocks) = 0
 rows_shown (request head claimed missing) = 0
 rows_shown none_due = 0
 rows_shown (due_at time) = 0
@@ -92,10 +91,6 @@ under-few s root =
     (split (occupied s.tables.blocks.sequences root) (λ f. rw f (omega arith)) (λ f. rw f (omega arith))))
     (λ e. rw e (omega arith))
 
-total-few : (s : State) → Few (occupied_total s)
-unfolding occupied_total
-total-few s = split (shaped s.tables) (λ e. rw e (omega arith)) (λ e. rw e (omega arith))
-
 asked-few : (s : State) (now : ℕ) (ask : Option Ask) → Few (asked s now ask)
 unfolding asked
 asked-few s now none = omega arith
@@ -124,7 +119,6 @@ called-few s (Promote block) = promote-few s block.0
 called-few s (Remove block) = remove-few s block.0
 called-few s (Under block) = under-few s block.0
 called-few s Screen = screen-few s (heads_in s.tables)
-called-few s Total = total-few s
 called-few s (Timer now retry) = timer-few s now (some retry)
 called-few s (Restart now) = restart-few s now
 called-few s Unread = omega arith

@@ -1,32 +1,44 @@
 -- A line's call and its line together; which calls keep the record.
 use mathlib.Core.Path.{◌≡◌, refl, sym, ap, ◌∙◌}
-use mathlib.Core.Bool.{Bool, false, not}
+use mathlib.Core.Bool.{Bool, false, not, ◌&&◌}
 use mathlib.Core.List.{List, []}
 use mathlib.Core.Option.{Option, none, some}
 use Prim.Native.Nat.{ℕ}
+use lib.Dec.{eqb}
 use lib.ListN.{length, replicate}
 use lib.Seq.{sets}
-use Rattle.rules.specs.Hashes.{hash_length}
-use Rattle.rules.specs.Records.{Tables, occupied}
+use Rattle.rules.specs.Common.{is_some}
+use Rattle.rules.specs.Hashes.{hash_length, zero_hash, same_hash}
+use Rattle.rules.specs.Records.{Tables, NONE, occupied}
+use Rattle.rules.specs.BlockTable.{find, next_free}
 use Rattle.rules.specs.Timer.{Ask, span_or, recovery}
 use Rattle.rules.specs.Answers.{Answer}
-use Rattle.rules.specs.Calls.{State, Stepped, state_of, shaped, heads_in, fresh, admit, promote, remove, holds_active, under, occupied_total, screen, asked, timer, restart, step}
+use Rattle.rules.specs.Calls.{State, Stepped, state_of, shaped, heads_in, fresh, admit, promote, remove, holds_active, under, screen, asked, timer, restart, step}
 use Rattle.rules.specs.declared.BlockSlot.{BlockSlot}
 use Rattle.rules.specs.declared.Sequence.{Sequence}
-use Rattle.rules.proofs.Splits.{split}
-use Rattle.rules.proofs.Refusals.{admit?, under-keeps, screen-keeps, total-keeps}
+use Rattle.rules.proofs.Splits.{split, option?}
+use Rattle.rules.proofs.Refusals.{under-keeps, screen-keeps}
 use Rattle.trial_lines.specs.Writing.{place, letter_line, number_line}
 use Rattle.trial_lines.specs.Said.{said}
 use Rattle.trial_lines.specs.declared.Line.{Line}
-use Rattle.trial_lines.specs.declared.Line.TheVariants.{Fresh, Admit, Promote, Remove, Under, Screen, Total, Timer, Restart, Unread}
+use Rattle.trial_lines.specs.declared.Line.TheVariants.{Fresh, Admit, Promote, Remove, Under, Screen, Timer, Restart, Unread}
 use Rattle.trial_lines.proofs.Places.{Put}
 use Rattle.trial_calls.specs.Calling.{called, done_said, line_said, is_refused, renews, Tells}
 
 -- ---- the record is kept
 
 pub admit-keeps : (s : State) (sequence : ℕ) (hash previous : List ℕ) (arrival : ℕ) → (admit s sequence hash previous arrival).after.active_head ≡ s.active_head
+unfolding admit
 admit-keeps s sequence hash previous arrival =
-    admit? s sequence hash previous arrival (λ (d : Stepped). d.after.active_head ≡ s.active_head) (λ n _. refl) (λ i _. refl)
+    let b = s.tables.blocks in
+    split (shaped s.tables) (λ e. rw e
+    (split (eqb (length hash) hash_length && eqb (length previous) hash_length) (λ f. rw f
+    (split (eqb sequence NONE) (λ g. rw g) (λ g. rw g
+    (split (same_hash hash zero_hash) (λ h. rw h) (λ h. rw h
+    (split (is_some (find b.hashes b.sequences sequence hash)) (λ i. rw i) (λ i. rw i
+    (option? (next_free b.sequences) (λ j. rw j) (λ k j. rw j)))))))))
+    (λ f. rw f)))
+    (λ e. rw e)
 
 pub remove-keeps : (s : State) (root : ℕ) → (remove s root).after.active_head ≡ s.active_head
 unfolding remove
@@ -115,13 +127,6 @@ pub screen-tells : {s : State} {out written : List ℕ} {at next : ℕ} {t : Tab
     → Tells s Screen out at (state_of t s.active_head) false written next
 unfolding called done_said renews
 screen-tells {s} e f i = tells refl e f (ap (λ (x : State). x.active_head) (sym (screen-keeps s (heads_in s.tables)))) refl i
-
-pub total-tells : {s : State} {out written : List ℕ} {at next : ℕ} {t : Tables} {answer : Answer}
-    → answer ≡ (occupied_total s).answer → t ≡ (occupied_total s).after.tables
-    → Put out at (said [] answer) written next
-    → Tells s Total out at (state_of t s.active_head) false written next
-unfolding called done_said renews
-total-tells {s} e f i = tells refl e f (ap (λ (x : State). x.active_head) (sym (total-keeps s))) refl i
 
 pub timer-tells : {s : State} {clock retry : ℕ} {out written : List ℕ} {at next : ℕ} {t : Tables} {answer : Answer}
     → answer ≡ (timer s clock (some retry)).answer → t ≡ (timer s clock (some retry)).after.tables

@@ -3,12 +3,12 @@ use Rattle.std.specs.Prelude.{◌≡◌, Bool, true, false, not, List, [], ℕ, 
 use Rattle.std.proofs.Math.Option.{some}
 use Rattle.std.proofs.lemmas.List.Edits.{sets}
 use Rattle.rules.specs.Hashes.{hash_length}
-use Rattle.rules.specs.Answers.{Answer, refused, done, slot, freed, hangs, total, shown, request, none_due, due_at, never_due}
-use Rattle.rules.specs.Calls.{State, Stepped, answering, heads_in, fresh, under, occupied_total, screen, step, admit_call, promote_call, remove_call, timer_call, restart_call}
+use Rattle.rules.specs.Answers.{Answer, refused, done, slot, freed, hangs, shown, request, none_due, due_at, never_due}
+use Rattle.rules.specs.Calls.{State, Stepped, answering, heads_in, fresh, under, screen, step, admit_call, promote_call, remove_call, timer_call, restart_call}
 use Rattle.trial_lines.specs.Writing.{place, letter_line, number_line}
 use Rattle.trial_lines.specs.Said.{said}
 use Rattle.trial_lines.specs.declared.Line.{Line}
-use Rattle.trial_lines.specs.declared.Line.TheVariants.{Fresh, Admit, Promote, Remove, Under, Screen, Total, Timer, Restart, Unread}
+use Rattle.trial_lines.specs.declared.Line.TheVariants.{Fresh, Admit, Promote, Remove, Under, Screen, Timer, Restart, Unread}
 
 -- a hash is a line's byte 32 times, a screen's list has a record for every head slot; an unread line calls nothing
 unfoldable pub called : (s : State) (line : Line) → Stepped
@@ -18,7 +18,6 @@ called s (Promote block) = step s (promote_call block.0)
 called s (Remove block) = step s (remove_call block.0)
 called s (Under block) = under s block.0
 called s Screen = screen s (heads_in s.tables)
-called s Total = occupied_total s
 called s (Timer now retry) = step s (timer_call now (some retry))
 called s (Restart now) = step s (restart_call now)
 called s Unread = answering s done
@@ -31,7 +30,6 @@ done_said (Promote block) = number_line 80 block.0
 done_said (Remove block) = []
 done_said (Under block) = []
 done_said Screen = []
-done_said Total = []
 done_said (Timer now retry) = []
 done_said (Restart now) = letter_line 82
 done_said Unread = letter_line 63
@@ -45,7 +43,6 @@ is_refused done = false
 is_refused (slot new) = false
 is_refused (freed blocks) = false
 is_refused (hangs blocks highest) = false
-is_refused (total blocks) = false
 is_refused (shown rows) = false
 is_refused (request head claimed missing) = false
 is_refused none_due = false
@@ -60,7 +57,6 @@ renews (Promote block) answer = false
 renews (Remove block) answer = false
 renews (Under block) answer = false
 renews Screen answer = false
-renews Total answer = false
 renews (Timer now retry) answer = false
 renews (Restart now) answer = false
 renews Unread answer = false

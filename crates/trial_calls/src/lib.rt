@@ -6,7 +6,7 @@ ghost use Rattle.std.specs.Prelude.{◌≡◌, not, ℕ};
 ghost use Rattle.rules.specs.Records.{Tables, before, after};
 ghost use Rattle.rules.specs.Answers.{outcome_said};
 ghost use Rattle.rules.specs.Calls.{state_of};
-ghost use Rattle.trial_lines.specs.declared.Line.TheVariants.{Fresh, Admit, Promote, Remove, Under, Screen, Total, Timer, Restart, Unread};
+ghost use Rattle.trial_lines.specs.declared.Line.TheVariants.{Fresh, Admit, Promote, Remove, Under, Screen, Timer, Restart, Unread};
 ghost use Rattle.trial_calls.specs.Calling.{is_refused, Tells};
 
 use admit_call::admit;
@@ -18,10 +18,8 @@ use rules::{BlockSlot, Outcome, Sequence, Span};
 use screen::screen_lines;
 use screen_call::screen;
 use timer_call::timer;
-use total_call::occupied_total;
 use trial_lines::answers::{
-    admit_line, fresh_line, promote_line, remove_line, restart_line, timer_line, total_line,
-    under_line,
+    admit_line, fresh_line, promote_line, remove_line, restart_line, timer_line, under_line,
 };
 use trial_lines::lines::letter_line;
 use under_call::under;
@@ -50,7 +48,6 @@ pub fn tell_fresh(
     sequences: &mut [u32],
     counts: &mut [u8],
     flags: &mut [u8],
-    map: &mut [u64],
     tips: &mut [u32],
     tails: &mut [u32],
     missing: &mut [u8],
@@ -62,13 +59,13 @@ pub fn tell_fresh(
     at: usize,
 ) -> Told
     ensures { (n m : ℕ)
-        → Tells (state_of (before hashes parents sequences counts flags map tips tails missing requested arrivals connected) active.0)
+        → Tells (state_of (before hashes parents sequences counts flags tips tails missing requested arrivals connected) active.0)
         (Fresh n m) out.old at
-        (state_of (after hashes parents sequences counts flags map tips tails missing requested arrivals connected) result.active.0)
+        (state_of (after hashes parents sequences counts flags tips tails missing requested arrivals connected) result.active.0)
         result.renewed out.new result.at }
 {
     let recorded = fresh(
-        hashes, parents, sequences, counts, flags, map, tips, tails, missing, requested, arrivals,
+        hashes, parents, sequences, counts, flags, tips, tails, missing, requested, arrivals,
         connected, active,
     );
     let outcome = recorded.outcome;
@@ -87,7 +84,6 @@ pub fn tell_admit(
     sequences: &mut [u32],
     counts: &mut [u8],
     flags: &mut [u8],
-    map: &mut [u64],
     tips: &mut [u32],
     tails: &mut [u32],
     missing: &mut [u8],
@@ -103,15 +99,15 @@ pub fn tell_admit(
     at: usize,
 ) -> Told
     ensures { Tells
-        (state_of (before hashes parents sequences counts flags map tips tails missing requested arrivals connected) active.0)
+        (state_of (before hashes parents sequences counts flags tips tails missing requested arrivals connected) active.0)
         (Admit sequence hash previous arrival) out.old at
-        (state_of (after hashes parents sequences counts flags map tips tails missing requested arrivals connected) result.active.0)
+        (state_of (after hashes parents sequences counts flags tips tails missing requested arrivals connected) result.active.0)
         result.renewed out.new result.at }
 {
     let own = [hash; 32];
     let before = [previous; 32];
     let answer = admit(
-        hashes, parents, sequences, counts, flags, map, tips, tails, missing, requested, arrivals,
+        hashes, parents, sequences, counts, flags, tips, tails, missing, requested, arrivals,
         connected, active, sequence, &own, &before, arrival,
     );
     Told {
@@ -128,7 +124,6 @@ pub fn tell_promote(
     sequences: &[u32],
     counts: &[u8],
     flags: &mut [u8],
-    map: &[u64],
     tips: &[u32],
     tails: &mut [u32],
     missing: &mut [u8],
@@ -141,13 +136,13 @@ pub fn tell_promote(
     at: usize,
 ) -> Told
     ensures { Tells
-        (state_of (before hashes parents sequences counts flags map tips tails missing requested arrivals connected) active.0)
+        (state_of (before hashes parents sequences counts flags tips tails missing requested arrivals connected) active.0)
         (Promote slot) out.old at
-        (state_of (after hashes parents sequences counts flags map tips tails missing requested arrivals connected) result.active.0)
+        (state_of (after hashes parents sequences counts flags tips tails missing requested arrivals connected) result.active.0)
         result.renewed out.new result.at }
 {
     let recorded = promote(
-        hashes, parents, sequences, counts, flags, map, tips, tails, missing, requested, arrivals,
+        hashes, parents, sequences, counts, flags, tips, tails, missing, requested, arrivals,
         connected, active, slot,
     );
     let outcome = recorded.outcome;
@@ -166,7 +161,6 @@ pub fn tell_remove(
     sequences: &mut [u32],
     counts: &mut [u8],
     flags: &mut [u8],
-    map: &mut [u64],
     tips: &mut [u32],
     tails: &mut [u32],
     missing: &mut [u8],
@@ -179,13 +173,13 @@ pub fn tell_remove(
     at: usize,
 ) -> Told
     ensures { Tells
-        (state_of (before hashes parents sequences counts flags map tips tails missing requested arrivals connected) active.0)
+        (state_of (before hashes parents sequences counts flags tips tails missing requested arrivals connected) active.0)
         (Remove slot) out.old at
-        (state_of (after hashes parents sequences counts flags map tips tails missing requested arrivals connected) result.active.0)
+        (state_of (after hashes parents sequences counts flags tips tails missing requested arrivals connected) result.active.0)
         result.renewed out.new result.at }
 {
     let answer = remove(
-        hashes, parents, sequences, counts, flags, map, tips, tails, missing, requested, arrivals,
+        hashes, parents, sequences, counts, flags, tips, tails, missing, requested, arrivals,
         connected, slot,
     );
     Told {
@@ -202,7 +196,6 @@ pub fn tell_under(
     sequences: &[u32],
     counts: &[u8],
     flags: &[u8],
-    map: &[u64],
     tips: &[u32],
     tails: &[u32],
     missing: &[u8],
@@ -215,13 +208,13 @@ pub fn tell_under(
     at: usize,
 ) -> Told
     ensures { Tells
-        (state_of (before hashes parents sequences counts flags map tips tails missing requested arrivals connected) active.0)
+        (state_of (before hashes parents sequences counts flags tips tails missing requested arrivals connected) active.0)
         (Under slot) out.old at
-        (state_of (after hashes parents sequences counts flags map tips tails missing requested arrivals connected) result.active.0)
+        (state_of (after hashes parents sequences counts flags tips tails missing requested arrivals connected) result.active.0)
         result.renewed out.new result.at }
 {
     let answer = under(
-        hashes, parents, sequences, counts, flags, map, tips, tails, missing, requested, arrivals,
+        hashes, parents, sequences, counts, flags, tips, tails, missing, requested, arrivals,
         connected, slot,
     );
     Told {
@@ -238,7 +231,6 @@ pub fn tell_screen(
     sequences: &[u32],
     counts: &[u8],
     flags: &[u8],
-    map: &[u64],
     tips: &[u32],
     tails: &[u32],
     missing: &[u8],
@@ -250,9 +242,9 @@ pub fn tell_screen(
     at: usize,
 ) -> Told
     ensures { Tells
-        (state_of (before hashes parents sequences counts flags map tips tails missing requested arrivals connected) active.0)
+        (state_of (before hashes parents sequences counts flags tips tails missing requested arrivals connected) active.0)
         Screen out.old at
-        (state_of (after hashes parents sequences counts flags map tips tails missing requested arrivals connected) result.active.0)
+        (state_of (after hashes parents sequences counts flags tips tails missing requested arrivals connected) result.active.0)
         result.renewed out.new result.at }
 {
     let mut keys = [0u64; 64];
@@ -262,7 +254,6 @@ pub fn tell_screen(
         sequences,
         counts,
         flags,
-        map,
         tips,
         tails,
         missing,
@@ -279,41 +270,6 @@ pub fn tell_screen(
     }
 }
 
-// Asks for the occupied total and prints it, or the refusal.
-pub fn tell_total(
-    hashes: &[u8],
-    parents: &[u32],
-    sequences: &[u32],
-    counts: &[u8],
-    flags: &[u8],
-    map: &[u64],
-    tips: &[u32],
-    tails: &[u32],
-    missing: &[u8],
-    requested: &[u64],
-    arrivals: &[u64],
-    connected: &[u8],
-    active: BlockSlot,
-    out: &mut [u8],
-    at: usize,
-) -> Told
-    ensures { Tells
-        (state_of (before hashes parents sequences counts flags map tips tails missing requested arrivals connected) active.0)
-        Total out.old at
-        (state_of (after hashes parents sequences counts flags map tips tails missing requested arrivals connected) result.active.0)
-        result.renewed out.new result.at }
-{
-    let answer = occupied_total(
-        hashes, parents, sequences, counts, flags, map, tips, tails, missing, requested, arrivals,
-        connected,
-    );
-    Told {
-        active,
-        renewed: false,
-        at: total_line(out, at, answer),
-    }
-}
-
 // Calls timer with the line's retry span and prints the request, that none is due, or the refusal.
 pub fn tell_timer(
     hashes: &[u8],
@@ -321,7 +277,6 @@ pub fn tell_timer(
     sequences: &[u32],
     counts: &[u8],
     flags: &[u8],
-    map: &[u64],
     tips: &[u32],
     tails: &[u32],
     missing: &[u8],
@@ -335,9 +290,9 @@ pub fn tell_timer(
     at: usize,
 ) -> Told
     ensures { Tells
-        (state_of (before hashes parents sequences counts flags map tips tails missing requested arrivals connected) active.0)
+        (state_of (before hashes parents sequences counts flags tips tails missing requested arrivals connected) active.0)
         (Timer clock retry) out.old at
-        (state_of (after hashes parents sequences counts flags map tips tails missing requested arrivals connected) result.active.0)
+        (state_of (after hashes parents sequences counts flags tips tails missing requested arrivals connected) result.active.0)
         result.renewed out.new result.at }
 {
     let answer = timer(
@@ -346,7 +301,6 @@ pub fn tell_timer(
         sequences,
         counts,
         flags,
-        map,
         tips,
         tails,
         missing,
@@ -372,7 +326,6 @@ pub fn tell_restart(
     sequences: &mut [u32],
     counts: &mut [u8],
     flags: &mut [u8],
-    map: &mut [u64],
     tips: &mut [u32],
     tails: &mut [u32],
     missing: &mut [u8],
@@ -385,13 +338,13 @@ pub fn tell_restart(
     at: usize,
 ) -> Told
     ensures { Tells
-        (state_of (before hashes parents sequences counts flags map tips tails missing requested arrivals connected) active.0)
+        (state_of (before hashes parents sequences counts flags tips tails missing requested arrivals connected) active.0)
         (Restart clock) out.old at
-        (state_of (after hashes parents sequences counts flags map tips tails missing requested arrivals connected) result.active.0)
+        (state_of (after hashes parents sequences counts flags tips tails missing requested arrivals connected) result.active.0)
         result.renewed out.new result.at }
 {
     let answer = restart(
-        hashes, parents, sequences, counts, flags, map, tips, tails, missing, requested, arrivals,
+        hashes, parents, sequences, counts, flags, tips, tails, missing, requested, arrivals,
         connected, active, clock,
     );
     Told {

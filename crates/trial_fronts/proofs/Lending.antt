@@ -7,7 +7,6 @@ use native.Mathlib.Omega.{arith}
 use lib.ListN.{length, take, drop, length-take, drop_of_length-le}
 use lib.Seq.{take_all, take_at, drop_at}
 use Rattle.rules.specs.Hashes.{hash_length}
-use Rattle.rules.specs.Map.{words_for}
 use Rattle.rules.specs.Records.{Tables, tables_of}
 use Rattle.rules.specs.Calls.{state_of}
 use Rattle.rules.proofs.Splits.{less?}
@@ -27,7 +26,6 @@ pub record Same (t u : Tables) : Type 0 where
   pub sequences : t.blocks.sequences ≡ u.blocks.sequences
   pub counts : t.blocks.counts ≡ u.blocks.counts
   pub flags : t.blocks.flags ≡ u.blocks.flags
-  pub map : t.blocks.map ≡ u.blocks.map
   pub tips : t.heads.tips ≡ u.heads.tips
   pub tails : t.heads.tails ≡ u.heads.tails
   pub missing : t.heads.missing ≡ u.heads.missing
@@ -37,7 +35,7 @@ pub record Same (t u : Tables) : Type 0 where
 
 pub same_tables : (t u : Tables) → Same t u → t ≡ u
 same_tables t u e =
-    λ i. tables_of (e.hashes i) (e.parents i) (e.sequences i) (e.counts i) (e.flags i) (e.map i) (e.tips i) (e.tails i) (e.missing i) (e.requested i) (e.arrivals i) (e.connected i)
+    λ i. tables_of (e.hashes i) (e.parents i) (e.sequences i) (e.counts i) (e.flags i) (e.tips i) (e.tails i) (e.missing i) (e.requested i) (e.arrivals i) (e.connected i)
 
 -- ---- the front of one array, and of all
 
@@ -51,7 +49,6 @@ pub record Within (ends : Ends) (t : Tables) : Type 0 where
   pub sequences : ends.sequences ≤ length t.blocks.sequences
   pub counts : ends.counts ≤ length t.blocks.counts
   pub flags : ends.flags ≤ length t.blocks.flags
-  pub map : ends.map ≤ length t.blocks.map
   pub tips : ends.tips ≤ length t.heads.tips
   pub tails : ends.tails ≤ length t.heads.tails
   pub missing : ends.missing ≤ length t.heads.missing
@@ -60,7 +57,7 @@ pub record Within (ends : Ends) (t : Tables) : Type 0 where
   pub connected : ends.connected ≤ length t.heads.connected
 
 pub within : {n m : ℕ} {ends : Ends} {t : Tables} → Cut n m ends t → Within ends t
-within c = record { hashes = omega (arith, c.hashes); parents = omega (arith, c.parents); sequences = omega (arith, c.sequences); counts = omega (arith, c.counts); flags = omega (arith, c.flags); map = omega (arith, c.map); tips = omega (arith, c.tips); tails = omega (arith, c.tails); missing = omega (arith, c.missing); requested = omega (arith, c.requested); arrivals = omega (arith, c.arrivals); connected = omega (arith, c.connected) }
+within c = record { hashes = omega (arith, c.hashes); parents = omega (arith, c.parents); sequences = omega (arith, c.sequences); counts = omega (arith, c.counts); flags = omega (arith, c.flags); tips = omega (arith, c.tips); tails = omega (arith, c.tails); missing = omega (arith, c.missing); requested = omega (arith, c.requested); arrivals = omega (arith, c.arrivals); connected = omega (arith, c.connected) }
 
 -- of an array the first k cells are lent and come back; the array is then `whole`
 pub record Came (k : ℕ) (array lent back whole : List ℕ) : Type 0 where
@@ -97,7 +94,6 @@ pub record Lent (n m : ℕ) (t lent back u : Tables) : Type 0 where
   pub sequences : Came n t.blocks.sequences lent.blocks.sequences back.blocks.sequences u.blocks.sequences
   pub counts : Came n t.blocks.counts lent.blocks.counts back.blocks.counts u.blocks.counts
   pub flags : Came n t.blocks.flags lent.blocks.flags back.blocks.flags u.blocks.flags
-  pub map : Came (words_for n) t.blocks.map lent.blocks.map back.blocks.map u.blocks.map
   pub tips : Came m t.heads.tips lent.heads.tips back.heads.tips u.heads.tips
   pub tails : Came m t.heads.tails lent.heads.tails back.heads.tails u.heads.tails
   pub missing : Came (m * hash_length) t.heads.missing lent.heads.missing back.heads.missing u.heads.missing
@@ -108,15 +104,15 @@ pub record Lent (n m : ℕ) (t lent back u : Tables) : Type 0 where
 module _ {n m : ℕ} {t lent back u : Tables} (l : Lent n m t lent back u) where
   lent_is : lent ≡ front n m t
   unfolding front
-  lent_is = same_tables lent (front n m t) (record { hashes = l.hashes.went; parents = l.parents.went; sequences = l.sequences.went; counts = l.counts.went; flags = l.flags.went; map = l.map.went; tips = l.tips.went; tails = l.tails.went; missing = l.missing.went; requested = l.requested.went; arrivals = l.arrivals.went; connected = l.connected.went })
+  lent_is = same_tables lent (front n m t) (record { hashes = l.hashes.went; parents = l.parents.went; sequences = l.sequences.went; counts = l.counts.went; flags = l.flags.went; tips = l.tips.went; tails = l.tails.went; missing = l.missing.went; requested = l.requested.went; arrivals = l.arrivals.went; connected = l.connected.went })
 
   back_is : front n m u ≡ back
   unfolding front
-  back_is = same_tables (front n m u) back (record { hashes = l.hashes.first; parents = l.parents.first; sequences = l.sequences.first; counts = l.counts.first; flags = l.flags.first; map = l.map.first; tips = l.tips.first; tails = l.tails.first; missing = l.missing.first; requested = l.requested.first; arrivals = l.arrivals.first; connected = l.connected.first })
+  back_is = same_tables (front n m u) back (record { hashes = l.hashes.first; parents = l.parents.first; sequences = l.sequences.first; counts = l.counts.first; flags = l.flags.first; tips = l.tips.first; tails = l.tails.first; missing = l.missing.first; requested = l.requested.first; arrivals = l.arrivals.first; connected = l.connected.first })
 
   rest-is : behind n m u ≡ behind n m t
   unfolding behind
-  rest-is = same_tables (behind n m u) (behind n m t) (record { hashes = l.hashes.rest; parents = l.parents.rest; sequences = l.sequences.rest; counts = l.counts.rest; flags = l.flags.rest; map = l.map.rest; tips = l.tips.rest; tails = l.tails.rest; missing = l.missing.rest; requested = l.requested.rest; arrivals = l.arrivals.rest; connected = l.connected.rest })
+  rest-is = same_tables (behind n m u) (behind n m t) (record { hashes = l.hashes.rest; parents = l.parents.rest; sequences = l.sequences.rest; counts = l.counts.rest; flags = l.flags.rest; tips = l.tips.rest; tails = l.tails.rest; missing = l.missing.rest; requested = l.requested.rest; arrivals = l.arrivals.rest; connected = l.connected.rest })
 
 pub tells-front : {n m : ℕ} {t lent back u : Tables} {a b : ℕ} {line : Line} {out written : List ℕ} {at next : ℕ} {renewed : Bool}
     → Tells (state_of lent a) line out at (state_of back b) renewed written next → Lent n m t lent back u

@@ -2,7 +2,6 @@
 use Rattle.std.specs.Prelude.{List, ◌++◌, ◌≡◌, Bool, ℕ, ◌*◌, min, length, take, drop}
 use Rattle.rules.specs.Kinds.{BlockSlot}
 use Rattle.rules.specs.Hashes.{hash_length}
-use Rattle.rules.specs.Map.{words_for}
 use Rattle.rules.specs.Records.{Tables, tables_of}
 use Rattle.rules.specs.Calls.{state_of}
 use Rattle.trial_lines.specs.declared.Line.{Line}
@@ -13,14 +12,14 @@ unfoldable pub front : (n m : ℕ) (t : Tables) → Tables
 front n m t =
     let b = t.blocks in
     let h = t.heads in
-    tables_of (take (n * hash_length) b.hashes) (take n b.parents) (take n b.sequences) (take n b.counts) (take n b.flags) (take (words_for n) b.map)
+    tables_of (take (n * hash_length) b.hashes) (take n b.parents) (take n b.sequences) (take n b.counts) (take n b.flags)
     (take m h.tips) (take m h.tails) (take (m * hash_length) h.missing) (take m h.requested) (take m h.arrivals) (take m h.connected)
 
 unfoldable pub behind : (n m : ℕ) (t : Tables) → Tables
 behind n m t =
     let b = t.blocks in
     let h = t.heads in
-    tables_of (drop (n * hash_length) b.hashes) (drop n b.parents) (drop n b.sequences) (drop n b.counts) (drop n b.flags) (drop (words_for n) b.map)
+    tables_of (drop (n * hash_length) b.hashes) (drop n b.parents) (drop n b.sequences) (drop n b.counts) (drop n b.flags)
     (drop m h.tips) (drop m h.tails) (drop (m * hash_length) h.missing) (drop m h.requested) (drop m h.arrivals) (drop m h.connected)
 
 unfoldable pub before : (t u : Tables) → Tables
@@ -29,7 +28,7 @@ before t u =
     let h = t.heads in
     let c = u.blocks in
     let k = u.heads in
-    tables_of (b.hashes ++ c.hashes) (b.parents ++ c.parents) (b.sequences ++ c.sequences) (b.counts ++ c.counts) (b.flags ++ c.flags) (b.map ++ c.map)
+    tables_of (b.hashes ++ c.hashes) (b.parents ++ c.parents) (b.sequences ++ c.sequences) (b.counts ++ c.counts) (b.flags ++ c.flags)
     (h.tips ++ k.tips) (h.tails ++ k.tails) (h.missing ++ k.missing) (h.requested ++ k.requested) (h.arrivals ++ k.arrivals) (h.connected ++ k.connected)
 
 -- each end is that of the first slots, or of the array where that is shorter
@@ -39,7 +38,6 @@ pub record Cut (n m : ℕ) (ends : Ends) (t : Tables) : Type 0 where
   pub sequences : ends.sequences ≡ min n (length t.blocks.sequences)
   pub counts : ends.counts ≡ min n (length t.blocks.counts)
   pub flags : ends.flags ≡ min n (length t.blocks.flags)
-  pub map : ends.map ≡ min (words_for n) (length t.blocks.map)
   pub tips : ends.tips ≡ min m (length t.heads.tips)
   pub tails : ends.tails ≡ min m (length t.heads.tails)
   pub missing : ends.missing ≡ min (m * hash_length) (length t.heads.missing)

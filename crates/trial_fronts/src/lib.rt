@@ -21,7 +21,6 @@ struct Ends {
     sequences: usize,
     counts: usize,
     flags: usize,
-    map: usize,
     tips: usize,
     tails: usize,
     missing: usize,
@@ -37,7 +36,6 @@ fn cut(
     sequences: &[u32],
     counts: &[u8],
     flags: &[u8],
-    map: &[u64],
     tips: &[u32],
     tails: &[u32],
     missing: &[u8],
@@ -47,7 +45,7 @@ fn cut(
     n: u32,
     m: u32,
 ) -> Ends
-    ensures { Cut n m result (before hashes parents sequences counts flags map tips tails missing requested arrivals connected) }
+    ensures { Cut n m result (before hashes parents sequences counts flags tips tails missing requested arrivals connected) }
 {
     let blocks = n as usize;
     let heads = m as usize;
@@ -57,7 +55,6 @@ fn cut(
         sequences: least(blocks, sequences.len()),
         counts: least(blocks, counts.len()),
         flags: least(blocks, flags.len()),
-        map: least((blocks + 63) / 64, map.len()),
         tips: least(heads, tips.len()),
         tails: least(heads, tails.len()),
         missing: least(heads * 32, missing.len()),
@@ -74,7 +71,6 @@ pub fn answer_front(
     sequences: &mut [u32],
     counts: &mut [u8],
     flags: &mut [u8],
-    map: &mut [u64],
     tips: &mut [u32],
     tails: &mut [u32],
     missing: &mut [u8],
@@ -88,13 +84,13 @@ pub fn answer_front(
     out: &mut [u8],
     at: usize,
 ) -> Told
-    ensures { TellsFront n m (before hashes parents sequences counts flags map tips tails missing requested arrivals connected)
+    ensures { TellsFront n m (before hashes parents sequences counts flags tips tails missing requested arrivals connected)
         active.0 line out.old at
-        (after hashes parents sequences counts flags map tips tails missing requested arrivals connected) result.active.0 result.renewed
+        (after hashes parents sequences counts flags tips tails missing requested arrivals connected) result.active.0 result.renewed
         out.new result.at }
 {
     let end = cut(
-        hashes, parents, sequences, counts, flags, map, tips, tails, missing, requested, arrivals,
+        hashes, parents, sequences, counts, flags, tips, tails, missing, requested, arrivals,
         connected, n, m,
     );
     answer(
@@ -103,7 +99,6 @@ pub fn answer_front(
         &mut sequences[..end.sequences],
         &mut counts[..end.counts],
         &mut flags[..end.flags],
-        &mut map[..end.map],
         &mut tips[..end.tips],
         &mut tails[..end.tails],
         &mut missing[..end.missing],

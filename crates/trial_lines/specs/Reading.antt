@@ -6,7 +6,7 @@ use Rattle.rules.specs.Common.{if◌then◌else◌}
 use Rattle.rules.specs.Records.{NONE}
 use Rattle.rules.specs.Timer.{max_time}
 use Rattle.trial_lines.specs.declared.Line.{Line}
-use Rattle.trial_lines.specs.declared.Line.TheVariants.{Fresh, Admit, Promote, Remove, Under, Screen, Total, Timer, Restart, Unread}
+use Rattle.trial_lines.specs.declared.Line.TheVariants.{Fresh, Admit, Promote, Remove, Under, Screen, Timer, Restart, Unread}
 
 -- ---- fields
 
@@ -106,9 +106,9 @@ remove_of fields = elim (number word_most fields) [ none ↦ Unread | some slot 
 unfoldable pub under_of : (fields : List ℕ) → Line
 under_of fields = elim (number word_most fields) [ none ↦ Unread | some slot ↦ Under (record { 0 = slot }) ]
 
--- V and O have no field: the line is its letter
-unfoldable pub alone : (line : List ℕ) (asks : Line) → Line
-alone line asks = if eqb (length line) 1 then asks else Unread
+-- V has no field: the line is its letter
+unfoldable pub screen_read : (line : List ℕ) → Line
+screen_read line = if eqb (length line) 1 then Screen else Unread
 
 unfoldable pub timer_of : (fields : List ℕ) → Line
 timer_of fields = timer_read (number time_most (first fields)) (number time_most (rest fields))
@@ -116,7 +116,7 @@ timer_of fields = timer_read (number time_most (first fields)) (number time_most
 unfoldable pub restart_of : (fields : List ℕ) → Line
 restart_of fields = elim (number time_most fields) [ none ↦ Unread | some clock ↦ Restart clock ]
 
--- N is 78, A 65, P 80, D 68, U 85, V 86, O 79, T 84, R 82
+-- N is 78, A 65, P 80, D 68, U 85, V 86, T 84, R 82
 unfoldable pub parse : (line : List ℕ) → Line
 parse line =
     if eqb (letter line) 78 then fresh_of (rest line)
@@ -124,8 +124,7 @@ parse line =
     else if eqb (letter line) 80 then promote_of (rest line)
     else if eqb (letter line) 68 then remove_of (rest line)
     else if eqb (letter line) 85 then under_of (rest line)
-    else if eqb (letter line) 86 then alone line Screen
-    else if eqb (letter line) 79 then alone line Total
+    else if eqb (letter line) 86 then screen_read line
     else if eqb (letter line) 84 then timer_of (rest line)
     else if eqb (letter line) 82 then restart_of (rest line)
     else Unread

@@ -1,13 +1,13 @@
 // The line that a call's answer prints: the call's letter and what it returned, or `E` and the refusal's number.
 ghost use Rattle.std.specs.Prelude.{◌≡◌, [], length};
 ghost use Rattle.std.proofs.lemmas.List.Edits.{sets};
-ghost use Rattle.rules.specs.Answers.{outcome_said, admitted_said, removed_said, hanging_said, total_said, timed_said};
+ghost use Rattle.rules.specs.Answers.{outcome_said, admitted_said, removed_said, hanging_said, timed_said};
 ghost use Rattle.trial_lines.specs.Writing.{place, letter_line, number_line};
 ghost use Rattle.trial_lines.specs.Said.{said};
 
 use crate::lines::{hanging_line, letter_line, none_due_line, number_line, request_line};
 use query_numbers::refusal_number;
-use rules::{Admitted, BlockSlot, Hanging, Outcome, Refusal, Removed, Timed, Total};
+use rules::{Admitted, BlockSlot, Hanging, Outcome, Refusal, Removed, Timed};
 
 // Fresh prints a refusal alone.
 pub fn fresh_line(out: &mut [u8], at: usize, answer: Outcome) -> usize
@@ -61,17 +61,6 @@ pub fn under_line(out: &mut [u8], at: usize, answer: Hanging) -> usize
     match answer {
         Hanging::Blocks(blocks, highest) => hanging_line(out, at, blocks, highest),
         Hanging::Refused(why) => number_line(out, at, b'E', refusal_number(why)),
-    }
-}
-
-// `O` and the number of blocks, or the refusal.
-pub fn total_line(out: &mut [u8], at: usize, answer: Total) -> usize
-    ensures { (out.new ≡ sets out.old at (said [] (total_said answer)))
-        × (result ≡ place (length out.old) at (length (said [] (total_said answer)))) }
-{
-    match answer {
-        Total::Blocks(blocks) => number_line(out, at, b'O', blocks),
-        Total::Refused(why) => number_line(out, at, b'E', refusal_number(why)),
     }
 }
 

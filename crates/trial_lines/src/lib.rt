@@ -24,7 +24,6 @@ pub enum Line {
     Remove(BlockSlot),
     Under(BlockSlot),
     Screen,
-    Total,
     Timer(u64, u64),
     Restart(u64),
     Unread,

@@ -1,6 +1,6 @@
 // A line read: its letter says which fields follow.
 ghost use Rattle.std.specs.Prelude.{◌≡◌};
-ghost use Rattle.trial_lines.specs.Reading.{fresh_of, admit_of, promote_of, remove_of, under_of, alone, timer_of, restart_of, parse};
+ghost use Rattle.trial_lines.specs.Reading.{fresh_of, admit_of, promote_of, remove_of, under_of, screen_read, timer_of, restart_of, parse};
 
 use crate::fields::{first, letter, rest};
 use crate::numbers::{read_hash, read_time, read_word};
@@ -66,12 +66,12 @@ fn read_under(fields: &[u8]) -> Line
     }
 }
 
-// V and O have no field: the line is its letter.
-fn read_alone(line: &[u8], asks: Line) -> Line
-    ensures { result ≡ alone line.now asks }
+// V has no field: the line is its letter.
+fn read_screen(line: &[u8]) -> Line
+    ensures { result ≡ screen_read line.now }
 {
     if line.len() == 1 {
-        return asks;
+        return Line::Screen;
     }
     Line::Unread
 }
@@ -97,7 +97,7 @@ fn read_restart(fields: &[u8]) -> Line
     }
 }
 
-// What the line asks for: N, A, P, D, U, T or R with its fields, or V or O alone; anything else is unread.
+// What the line asks for: N, A, P, D, U, T or R with its fields, or V alone; anything else is unread.
 pub fn read_line(line: &[u8]) -> Line
     ensures { result ≡ parse line.now }
 {
@@ -119,10 +119,7 @@ pub fn read_line(line: &[u8]) -> Line
         return read_under(fields);
     }
     if kind == b'V' {
-        return read_alone(line, Line::Screen);
-    }
-    if kind == b'O' {
-        return read_alone(line, Line::Total);
+        return read_screen(line);
     }
     if kind == b'T' {
         return read_timer(fields);

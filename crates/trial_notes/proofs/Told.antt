@@ -12,11 +12,11 @@ use lib.Seq.{get_or-drop}
 use Rattle.rules.specs.Common.{is_some}
 use Rattle.rules.proofs.Splits.{split, true-not-false, and-true, and_false_r}
 use Rattle.trial_lines.specs.Begun.{Begun, so_far, too_long, line_begun}
-use Rattle.trial_lines.specs.Reading.{field_length, first, rest, letter, is_digit, all_digits, number, word_most, time_most, hash_byte, fresh_read, admit_read, timer_read, fresh_of, admit_of, promote_of, remove_of, under_of, alone, timer_of, restart_of, parse}
+use Rattle.trial_lines.specs.Reading.{field_length, first, rest, letter, is_digit, all_digits, number, word_most, time_most, hash_byte, fresh_read, admit_read, timer_read, fresh_of, admit_of, promote_of, remove_of, under_of, screen_read, timer_of, restart_of, parse}
 use Rattle.trial_lines.specs.declared.Line.{Line}
-use Rattle.trial_lines.specs.declared.Line.TheVariants.{Fresh, Admit, Promote, Remove, Under, Screen, Total, Timer, Restart, Unread}
+use Rattle.trial_lines.specs.declared.Line.TheVariants.{Fresh, Admit, Promote, Remove, Under, Screen, Timer, Restart, Unread}
 use Rattle.trial_lines.proofs.Bytes.{number-empty, number-not}
-use Rattle.trial_notes.specs.Faults.{is_nothing, unless, found, number_fault, word_fault, time_fault, hash_reason, hash_fault, inner, last, fresh_fault, admit_fault, timer_fault, alone_fault, letter_fault, fields_fault, last_byte, fault_of}
+use Rattle.trial_notes.specs.Faults.{is_nothing, unless, found, number_fault, word_fault, time_fault, hash_reason, hash_fault, inner, last, fresh_fault, admit_fault, timer_fault, screen_fault, letter_fault, fields_fault, last_byte, fault_of}
 use Rattle.trial_notes.specs.Notes.{begun_fault}
 use Rattle.trial_notes.specs.declared.Reason.{Reason}
 use Rattle.trial_notes.specs.declared.Fault.{Fault}
@@ -29,7 +29,6 @@ is_read (Promote slot) = true
 is_read (Remove slot) = true
 is_read (Under slot) = true
 is_read Screen = true
-is_read Total = true
 is_read (Timer now retry) = true
 is_read (Restart now) = true
 is_read Unread = false
@@ -175,11 +174,11 @@ under-told : (fields : List ℕ) → is_nothing (last word_fault fields) ≡ is_
 unfolding under_of
 under-told fields = last-number word_most _ fields ∙ one-read (λ k. Under (record { 0 = k })) (λ k. refl) (number word_most fields)
 
-alone-told : (line : List ℕ) (asks : Line) → is_read asks ≡ true → is_nothing (alone_fault line) ≡ is_read (alone line asks)
-unfolding alone_fault alone
-alone-told line asks read =
+screen-told : (line : List ℕ) → is_nothing (screen_fault line) ≡ is_read (screen_read line)
+unfolding screen_fault screen_read
+screen-told line =
     split (eqb (length line) 1)
-    (λ e. rw e (sym read))
+    (λ e. rw e)
     (λ e. split (eqb (get_or line 2 0) 32) (λ f. rw (e, f)) (λ f. rw (e, f)))
 
 restart-told : (fields : List ℕ) → is_nothing (last time_fault fields) ≡ is_read (restart_of fields)
@@ -200,16 +199,14 @@ fields_told line =
     (λ d. split (eqb (letter line) 85)
     (λ e. rw (a, b, c, d, e) (under-told (rest line)))
     (λ f. split (eqb (letter line) 86)
-    (λ e. rw (a, b, c, d, f, e) (alone-told line Screen refl))
-    (λ g. split (eqb (letter line) 79)
-    (λ e. rw (a, b, c, d, f, g, e) (alone-told line Total refl))
-    (λ h. split (eqb (letter line) 84)
-    (λ e. rw (a, b, c, d, f, g, h, e) (timer-told (rest line)))
-    (λ i. split (eqb (letter line) 82)
-    (λ e. rw (a, b, c, d, f, g, h, i, e) (restart-told (rest line)))
-    (λ e. rw (a, b, c, d, f, g, h, i, e))))))))))
+    (λ e. rw (a, b, c, d, f, e) (screen-told line))
+    (λ g. split (eqb (letter line) 84)
+    (λ e. rw (a, b, c, d, f, g, e) (timer-told (rest line)))
+    (λ h. split (eqb (letter line) 82)
+    (λ e. rw (a, b, c, d, f, g, h, e) (restart-told (rest line)))
+    (λ e. rw (a, b, c, d, f, g, h, e)))))))))
 
--- ---- the line as a whole: what is read ends in a digit, or is V or O
+-- ---- the line as a whole: what is read ends in a digit, or is V
 
 abbrev Ends : List ℕ → Type 0
 Ends bytes = (0 < length bytes) × (is_digit (last_byte bytes) ≡ true)
@@ -266,16 +263,15 @@ admit-ends fields r =
     (drop-ends (suc (field_length later)) later (number-ends time_most (rest later) y)))
 
 abbrev ends_line : ℕ → Bool
-ends_line b = is_digit b || (eqb b 86 || eqb b 79)
+ends_line b = is_digit b || eqb b 86
 
-alone-ends : (line : List ℕ) (asks : Line) (kind : ℕ) → ends_line kind ≡ true → letter line ≡ kind → is_read (alone line asks) ≡ true
-    → ends_line (last_byte line) ≡ true
-unfolding alone
-alone-ends line asks kind d e r =
+screen-ends : (line : List ℕ) → letter line ≡ 86 → is_read (screen_read line) ≡ true → ends_line (last_byte line) ≡ true
+unfolding screen_read
+screen-ends line e r =
     split (eqb (length line) 1)
     (λ l. split (eqb (field_length line) 1)
-    (λ f. let b : get_or line 0 0 ≡ kind = rw f at e in rw (eqb-true (length line) 1 l, b) d)
-    (λ f. let b : 0 ≡ kind = rw f at e in true-not-false {b = false} (rw (← b) at d) refl))
+    (λ f. let b : get_or line 0 0 ≡ 86 = rw f at e in rw (eqb-true (length line) 1 l, b))
+    (λ f. let b : 0 ≡ 86 = rw f at e in absurd (omega arith)))
     (λ l. true-not-false {b = false} (rw l at r) refl)
 
 line-ends : (line : List ℕ) → is_read (parse line) ≡ true → ends_line (last_byte line) ≡ true
@@ -293,14 +289,12 @@ line-ends line r =
     (λ d. split (eqb (letter line) 85)
     (λ e. behind (number-ends word_most (rest line) (sym (last-number word_most _ (rest line)) ∙ under-told (rest line) ∙ rw (a, b, c, d, e) at r)))
     (λ f. split (eqb (letter line) 86)
-    (λ e. alone-ends line Screen 86 refl (eqb-true (letter line) 86 e) (rw (a, b, c, d, f, e) at r))
-    (λ g. split (eqb (letter line) 79)
-    (λ e. alone-ends line Total 79 refl (eqb-true (letter line) 79 e) (rw (a, b, c, d, f, g, e) at r))
-    (λ h. split (eqb (letter line) 84)
-    (λ e. behind (timer-ends (rest line) (rw (a, b, c, d, f, g, h, e) at r)))
-    (λ i. split (eqb (letter line) 82)
-    (λ e. behind (number-ends time_most (rest line) (sym (last-number time_most _ (rest line)) ∙ restart-told (rest line) ∙ rw (a, b, c, d, f, g, h, i, e) at r)))
-    (λ e. true-not-false {b = false} (rw (a, b, c, d, f, g, h, i, e) at r) refl)))))))))
+    (λ e. screen-ends line (eqb-true (letter line) 86 e) (rw (a, b, c, d, f, e) at r))
+    (λ g. split (eqb (letter line) 84)
+    (λ e. behind (timer-ends (rest line) (rw (a, b, c, d, f, g, e) at r)))
+    (λ h. split (eqb (letter line) 82)
+    (λ e. behind (number-ends time_most (rest line) (sym (last-number time_most _ (rest line)) ∙ restart-told (rest line) ∙ rw (a, b, c, d, f, g, h, e) at r)))
+    (λ e. true-not-false {b = false} (rw (a, b, c, d, f, g, h, e) at r) refl))))))))
 
 last-unread : (line : List ℕ) (byte : ℕ) → last_byte line ≡ byte → ends_line byte ≡ false → is_read (parse line) ≡ false
 last-unread line byte e d = split (is_read (parse line)) (λ r. true-not-false (line-ends line r) (rw e d)) (λ r. r)

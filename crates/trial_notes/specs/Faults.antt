@@ -74,17 +74,17 @@ admit_fault fields =
 unfoldable pub timer_fault : (fields : List ℕ) → Fault
 timer_fault fields = unless (inner time_fault fields) (last time_fault (rest fields))
 
--- V and O have no field: the line is its letter
-unfoldable pub alone_fault : (line : List ℕ) → Fault
-alone_fault line =
+-- V has no field: the line is its letter
+unfoldable pub screen_fault : (line : List ℕ) → Fault
+screen_fault line =
     if eqb (length line) 1 then Nothing
     else if eqb (get_or line 2 0) 32 then Is SpaceTwice
     else Is FieldExtra
 
--- ---- the letter: N is 78, A 65, P 80, D 68, U 85, V 86, O 79, T 84, R 82, in lower case 32 more
+-- ---- the letter: N is 78, A 65, P 80, D 68, U 85, V 86, T 84, R 82, in lower case 32 more
 
 unfoldable pub is_letter : (byte : ℕ) → Bool
-is_letter b = eqb b 78 || (eqb b 65 || (eqb b 80 || (eqb b 68 || (eqb b 85 || (eqb b 86 || (eqb b 79 || (eqb b 84 || eqb b 82)))))))
+is_letter b = eqb b 78 || (eqb b 65 || (eqb b 80 || (eqb b 68 || (eqb b 85 || (eqb b 86 || (eqb b 84 || eqb b 82))))))
 
 unfoldable pub letter_fault : (byte : ℕ) → Fault
 letter_fault b = Is (if is_letter (b - 32) then LowerLetter else NoLetter)
@@ -96,8 +96,7 @@ fields_fault line =
     else if eqb (letter line) 80 then last word_fault (rest line)
     else if eqb (letter line) 68 then last word_fault (rest line)
     else if eqb (letter line) 85 then last word_fault (rest line)
-    else if eqb (letter line) 86 then alone_fault line
-    else if eqb (letter line) 79 then alone_fault line
+    else if eqb (letter line) 86 then screen_fault line
     else if eqb (letter line) 84 then timer_fault (rest line)
     else if eqb (letter line) 82 then last time_fault (rest line)
     else letter_fault (letter line)

@@ -1,6 +1,6 @@
 // The first fault of a line: of the line as a whole, then of its letter, then field after field.
 ghost use Rattle.std.specs.Prelude.{◌≡◌, ◌-◌};
-ghost use Rattle.trial_notes.specs.Faults.{unless, number_fault, lowered as lowered_rule, hash_reason, hash_fault, inner, last, is_letter, letter_fault, fresh_fault, admit_fault, timer_fault, alone_fault, fields_fault, fault_of};
+ghost use Rattle.trial_notes.specs.Faults.{unless, number_fault, lowered as lowered_rule, hash_reason, hash_fault, inner, last, is_letter, letter_fault, fresh_fault, admit_fault, timer_fault, screen_fault, fields_fault, fault_of};
 
 use crate::{Fault, Reason};
 use cells::byte_at;
@@ -131,9 +131,9 @@ fn timer_fault(fields: &[u8]) -> Fault
     earlier(clock, retry)
 }
 
-// V and O have no field: the line is its letter.
-fn alone_fault(line: &[u8]) -> Fault
-    ensures { result ≡ alone_fault line.now }
+// V has no field: the line is its letter.
+fn screen_fault(line: &[u8]) -> Fault
+    ensures { result ≡ screen_fault line.now }
 {
     if line.len() == 1 {
         return Fault::Nothing;
@@ -163,9 +163,6 @@ fn is_letter(byte: u8) -> bool
         return true;
     }
     if byte == b'V' {
-        return true;
-    }
-    if byte == b'O' {
         return true;
     }
     if byte == b'T' {
@@ -208,10 +205,7 @@ fn fields_fault(line: &[u8]) -> Fault
         return number_last(fields, WORD_MOST, Reason::WordTooLarge);
     }
     if kind == b'V' {
-        return alone_fault(line);
-    }
-    if kind == b'O' {
-        return alone_fault(line);
+        return screen_fault(line);
     }
     if kind == b'T' {
         return timer_fault(fields);

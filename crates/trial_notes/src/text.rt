@@ -18,7 +18,7 @@ fn put_reason(out: &mut [u8], at: usize, why: Reason) -> usize
         Reason::SpaceFirst => put_text(out, at, b"a space before its letter"),
         Reason::SpaceLast => put_text(out, at, b"a space at its end"),
         Reason::SpaceTwice => put_text(out, at, b"two spaces in a row"),
-        Reason::NoLetter => put_text(out, at, b"the first field is none of N A P D U V O T R"),
+        Reason::NoLetter => put_text(out, at, b"the first field is none of N A P D U V T R"),
         Reason::LowerLetter => put_text(out, at, b"its letter is in lower case"),
         Reason::FieldMissing => put_text(out, at, b"a field is missing"),
         Reason::FieldExtra => put_text(out, at, b"a field too many"),

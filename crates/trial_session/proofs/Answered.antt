@@ -14,7 +14,7 @@ use Rattle.rules.proofs.Splits.{split}
 use Rattle.trial_lines.specs.Begun.{so_far, begun_of}
 use Rattle.trial_lines.specs.Writing.{place}
 use Rattle.trial_lines.specs.declared.Line.{Line}
-use Rattle.trial_lines.specs.declared.Line.TheVariants.{Fresh, Admit, Promote, Remove, Under, Screen, Total, Timer, Restart, Unread}
+use Rattle.trial_lines.specs.declared.Line.TheVariants.{Fresh, Admit, Promote, Remove, Under, Screen, Timer, Restart, Unread}
 use Rattle.trial_calls.specs.Calling.{called, line_said, is_refused, renews, Tells}
 use Rattle.trial_fronts.specs.Fronts.{front, behind, before}
 use Rattle.trial_session.specs.Session.{Session, unless_refused, line_done, line_fed}
@@ -139,7 +139,6 @@ line-comes t u bytes z (Promote slot) out written at next b renewed sized tell r
 line-comes t u bytes z (Remove slot) out written at next b renewed sized tell rest = plain t u bytes z (Remove slot) out written at next b renewed refl (λ a. refl) tell rest
 line-comes t u bytes z (Under slot) out written at next b renewed sized tell rest = plain t u bytes z (Under slot) out written at next b renewed refl (λ a. refl) tell rest
 line-comes t u bytes z Screen out written at next b renewed sized tell rest = plain t u bytes z Screen out written at next b renewed refl (λ a. refl) tell rest
-line-comes t u bytes z Total out written at next b renewed sized tell rest = plain t u bytes z Total out written at next b renewed refl (λ a. refl) tell rest
 line-comes t u bytes z (Timer now retry) out written at next b renewed sized tell rest = plain t u bytes z (Timer now retry) out written at next b renewed refl (λ a. refl) tell rest
 line-comes t u bytes z (Restart now) out written at next b renewed sized tell rest = plain t u bytes z (Restart now) out written at next b renewed refl (λ a. refl) tell rest
 line-comes t u bytes z Unread out written at next b renewed sized tell rest = plain t u bytes z Unread out written at next b renewed refl (λ a. refl) tell rest

@@ -4,12 +4,12 @@ use mathlib.Core.Bool.{Bool, true, false}
 use mathlib.Core.List.{List}
 use Prim.Native.Nat.{ℕ}
 use Rattle.rules.specs.Records.{Tables, empty_blocks, empty_heads, blocks_fit, heads_fit}
-use Rattle.rules.specs.Calls.{shaped, fresh_state, admit_to, admit, promote, remove, under, occupied_total, screen, timer, restart, step}
+use Rattle.rules.specs.Calls.{shaped, fresh_state, admit, promote, remove, under, screen, timer, restart, step}
 use Rattle.rules.proofs.Splits.{true-not-false}
 use Rattle.trial_lines.specs.Begun.{begun_of}
 use Rattle.trial_lines.specs.Writing.{number_line}
 use Rattle.trial_lines.specs.declared.Line.{Line}
-use Rattle.trial_lines.specs.declared.Line.TheVariants.{Fresh, Admit, Promote, Remove, Under, Screen, Total, Timer, Restart, Unread}
+use Rattle.trial_lines.specs.declared.Line.TheVariants.{Fresh, Admit, Promote, Remove, Under, Screen, Timer, Restart, Unread}
 use Rattle.trial_calls.specs.Calling.{called, done_said, line_said}
 use Rattle.trial_fronts.specs.Fronts.{front}
 use Rattle.trial_session.specs.Session.{line_done, line_fed, start}
@@ -27,20 +27,18 @@ asks_call (Promote slot) = true
 asks_call (Remove slot) = true
 asks_call (Under slot) = true
 asks_call Screen = true
-asks_call Total = true
 asks_call (Timer now retry) = true
 asks_call (Restart now) = true
 asks_call Unread = false
 
 pub before-first : (line : Line) → asks_call line ≡ true → line_fed start.state line ≡ record { session = start; said = number_line 69 1 }
-unfolding line_fed line_done line_said called done_said start step admit_to admit promote remove under occupied_total screen timer restart shaped blocks_fit heads_fit fresh_state empty_blocks empty_heads
+unfolding line_fed line_done line_said called done_said start step admit promote remove under screen timer restart shaped blocks_fit heads_fit fresh_state empty_blocks empty_heads
 before-first (Fresh n m) e = true-not-false e refl
 before-first (Admit sequence hash previous arrival) e = refl
 before-first (Promote slot) e = refl
 before-first (Remove slot) e = refl
 before-first (Under slot) e = refl
 before-first Screen e = refl
-before-first Total e = refl
 before-first (Timer now retry) e = refl
 before-first (Restart now) e = refl
 before-first Unread e = true-not-false e refl

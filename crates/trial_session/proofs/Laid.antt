@@ -3,7 +3,6 @@ use mathlib.Core.Path.{◌≡◌, sym, ◌∙◌}
 use Prim.Native.Nat.{ℕ, ◌*◌}
 use lib.ListN.{take-append-drop}
 use Rattle.rules.specs.Hashes.{hash_length}
-use Rattle.rules.specs.Map.{words_for}
 use Rattle.rules.specs.Records.{Tables}
 use Rattle.trial_fronts.specs.Fronts.{front, behind, before}
 use Rattle.trial_fronts.proofs.Lending.{same_tables}
@@ -16,7 +15,6 @@ front-behind n m t = same_tables (before (front n m t) (behind n m t)) t (record
   sequences = take-append-drop (n) t.blocks.sequences;
   counts = take-append-drop (n) t.blocks.counts;
   flags = take-append-drop (n) t.blocks.flags;
-  map = take-append-drop (words_for n) t.blocks.map;
   tips = take-append-drop (m) t.heads.tips;
   tails = take-append-drop (m) t.heads.tails;
   missing = take-append-drop (m * hash_length) t.heads.missing;

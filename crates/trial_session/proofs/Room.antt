@@ -8,7 +8,7 @@ use native.Mathlib.Omega.{arith}
 use lib.Dec.{eqb}
 use lib.ListN.{length, get_or, take, length-append, length-take}
 use Rattle.rules.specs.Common.{if◌then◌else◌}
-use Rattle.rules.specs.Answers.{Answer, refused, done, slot, freed, hangs, total, shown, request, none_due, due_at, never_due}
+use Rattle.rules.specs.Answers.{Answer, refused, done, slot, freed, hangs, shown, request, none_due, due_at, never_due}
 use Rattle.rules.specs.Calls.{State, max_heads, shaped, fresh_state, fresh}
 use Rattle.rules.proofs.Splits.{split}
 use Rattle.trial_lines.specs.Begun.{Begun, so_far, too_long, longer, has_begun, line_begun, chunk_most}
@@ -16,7 +16,7 @@ use Rattle.trial_lines.specs.Reading.{field_length, parse}
 use Rattle.trial_lines.specs.Writing.{letter_line, none_due_line}
 use Rattle.trial_lines.specs.Said.{said}
 use Rattle.trial_lines.specs.declared.Line.{Line}
-use Rattle.trial_lines.specs.declared.Line.TheVariants.{Fresh, Admit, Promote, Remove, Under, Screen, Total, Timer, Restart, Unread}
+use Rattle.trial_lines.specs.declared.Line.TheVariants.{Fresh, Admit, Promote, Remove, Under, Screen, Timer, Restart, Unread}
 use Rattle.trial_lines.proofs.Short.{number_short, hanging-short, rows_short, request-short}
 use Rattle.trial_calls.specs.Calling.{called, done_said, line_said, is_refused}
 use Rattle.trial_calls.proofs.Shown.{rows_shown, called-few}
@@ -32,7 +32,6 @@ said-short w done h few = omega arith
 said-short w (slot new) h few = omega (arith, number_short 65 new)
 said-short w (freed blocks) h few = omega (arith, number_short 68 blocks)
 said-short w (hangs blocks highest) h few = omega (arith, hanging-short blocks highest)
-said-short w (total blocks) h few = omega (arith, number_short 79 blocks)
 said-short w (shown rows) h few = omega (arith, rows_short rows)
 said-short w (request head claimed missing) h few = omega (arith, request-short head claimed (get_or missing 0 0))
 said-short w none_due h few = omega arith
@@ -47,7 +46,6 @@ done-short (Promote block) = number_short 80 block.0
 done-short (Remove block) = omega arith
 done-short (Under block) = omega arith
 done-short Screen = omega arith
-done-short Total = omega arith
 done-short (Timer now retry) = omega arith
 done-short (Restart now) = omega arith
 done-short Unread = omega arith
@@ -65,7 +63,6 @@ done-few s (Promote block) = called-few s (Promote block)
 done-few s (Remove block) = called-few s (Remove block)
 done-few s (Under block) = called-few s (Under block)
 done-few s Screen = called-few s Screen
-done-few s Total = called-few s Total
 done-few s (Timer now retry) = called-few s (Timer now retry)
 done-few s (Restart now) = called-few s (Restart now)
 done-few s Unread = called-few s Unread

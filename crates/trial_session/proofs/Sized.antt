@@ -8,7 +8,6 @@ use borrow.Author.Tests.{eq-eqb, le-leb, leb-true, leb-false}
 use lib.Dec.{leb}
 use lib.ListN.{length, take, length-take, length-replicate}
 use Rattle.rules.specs.Hashes.{hash_length}
-use Rattle.rules.specs.Map.{words_for}
 use Rattle.rules.specs.Records.{Blocks, Heads, Tables, empty_blocks, empty_heads, blocks_fit, heads_fit}
 use Rattle.rules.specs.Calls.{max_blocks, min_heads, max_heads, shaped, fresh_state}
 use Rattle.rules.proofs.Splits.{split, and-true}
@@ -21,7 +20,6 @@ pub record SizedBlocks (n : ℕ) (b : Blocks) : Type 0 where
   pub sequences : length b.sequences ≡ n
   pub counts : length b.counts ≡ n
   pub flags : length b.flags ≡ n
-  pub map : length b.map ≡ words_for n
 
 pub record SizedHeads (m : ℕ) (h : Heads) : Type 0 where
   pub tips : length h.tips ≡ m
@@ -48,7 +46,6 @@ sized-shape n m t z =
       z.blocks.sequences,
       z.blocks.counts,
       z.blocks.flags,
-      z.blocks.map,
       z.heads.tips,
       z.heads.tails,
       z.heads.missing,
@@ -57,7 +54,6 @@ sized-shape n m t z =
       z.heads.connected,
       eq-eqb (n * hash_length) (n * hash_length) refl,
       eq-eqb n n refl,
-      eq-eqb (words_for n) (words_for n) refl,
       eq-eqb (m * hash_length) (m * hash_length) refl,
       eq-eqb m m refl,
     )
@@ -76,7 +72,6 @@ sized-front k j n m t z = record {
     sequences = taken k n t.blocks.sequences z.blocks.sequences;
     counts = taken k n t.blocks.counts z.blocks.counts;
     flags = taken k n t.blocks.flags z.blocks.flags;
-    map = let e = length-take (words_for k) t.blocks.map in let h = z.blocks.map in omega arith;
   };
   heads = record {
     tips = taken j m t.heads.tips z.heads.tips;
@@ -99,7 +94,6 @@ sized_fresh n m = record {
     sequences = length-replicate _ _;
     counts = length-replicate _ _;
     flags = length-replicate _ _;
-    map = length-replicate _ _;
   };
   heads = record {
     tips = length-replicate _ _;

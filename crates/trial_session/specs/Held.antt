@@ -9,7 +9,7 @@ use Rattle.rules.specs.Calls.{State, Stepped, state_of, max_blocks, max_heads}
 use Rattle.trial_lines.specs.Begun.{line_most, chunk_most, Begun, has_begun, line_begun, begun_of}
 use Rattle.trial_lines.specs.Writing.{place}
 use Rattle.trial_lines.specs.declared.Line.{Line}
-use Rattle.trial_lines.specs.declared.Line.TheVariants.{Fresh, Admit, Promote, Remove, Under, Screen, Total, Timer, Restart, Unread}
+use Rattle.trial_lines.specs.declared.Line.TheVariants.{Fresh, Admit, Promote, Remove, Under, Screen, Timer, Restart, Unread}
 use Rattle.trial_calls.specs.Calling.{renews}
 use Rattle.trial_fronts.specs.Fronts.{front, behind, before}
 use Rattle.trial_session.specs.Session.{line_done, Session, Fed, line_fed, fed_byte, fed, last_ended, closing}
@@ -55,7 +55,6 @@ asked z (Promote slot) = z
 asked z (Remove slot) = z
 asked z (Under slot) = z
 asked z Screen = z
-asked z Total = z
 asked z (Timer now retry) = z
 asked z (Restart now) = z
 asked z Unread = z

@@ -5,7 +5,7 @@ use Rattle.rules.specs.Records.{Tables}
 use Rattle.rules.specs.Calls.{State, Stepped, answering, fresh_state, fresh}
 use Rattle.trial_lines.specs.Begun.{Begun, so_far, longer, has_begun, line_begun}
 use Rattle.trial_lines.specs.declared.Line.{Line}
-use Rattle.trial_lines.specs.declared.Line.TheVariants.{Fresh, Admit, Promote, Remove, Under, Screen, Total, Timer, Restart, Unread}
+use Rattle.trial_lines.specs.declared.Line.TheVariants.{Fresh, Admit, Promote, Remove, Under, Screen, Timer, Restart, Unread}
 use Rattle.trial_calls.specs.Calling.{called, line_said, is_refused}
 use Rattle.trial_listing.specs.Listing.{listing_of}
 
@@ -23,7 +23,6 @@ line_done s (Promote slot) = called s (Promote slot)
 line_done s (Remove slot) = called s (Remove slot)
 line_done s (Under slot) = called s (Under slot)
 line_done s Screen = called s Screen
-line_done s Total = called s Total
 line_done s (Timer now retry) = called s (Timer now retry)
 line_done s (Restart now) = called s (Restart now)
 line_done s Unread = called s Unread

@@ -53,7 +53,6 @@ pub fn feed(
     sequences: &mut [u32; 1025],
     counts: &mut [u8; 1025],
     flags: &mut [u8; 1025],
-    map: &mut [u64; 17],
     tips: &mut [u32; 65],
     tails: &mut [u32; 65],
     missing: &mut [u8; 2080],
@@ -66,13 +65,13 @@ pub fn feed(
     out: &mut [u8; ROOM],
 ) -> Printed
     ensures { Feeds
-        (held_of (before hashes parents sequences counts flags map tips tails missing requested arrivals connected) line.old
+        (held_of (before hashes parents sequences counts flags tips tails missing requested arrivals connected) line.old
         trial) (take chunk_most chunk.now) out.old
-        (held_of (after hashes parents sequences counts flags map tips tails missing requested arrivals connected) line.new
+        (held_of (after hashes parents sequences counts flags tips tails missing requested arrivals connected) line.new
         result.trial) out.new result.at }
 {
     take_bytes(
-        hashes, parents, sequences, counts, flags, map, tips, tails, missing, requested, arrivals,
+        hashes, parents, sequences, counts, flags, tips, tails, missing, requested, arrivals,
         connected, line, trial, chunk, CHUNK, out,
     )
 }
@@ -84,7 +83,6 @@ pub fn close(
     sequences: &mut [u32; 1025],
     counts: &mut [u8; 1025],
     flags: &mut [u8; 1025],
-    map: &mut [u64; 17],
     tips: &mut [u32; 65],
     tails: &mut [u32; 65],
     missing: &mut [u8; 2080],
@@ -96,12 +94,12 @@ pub fn close(
     out: &mut [u8; ROOM],
 ) -> usize
     ensures { Closes
-        (held_of (before hashes parents sequences counts flags map tips tails missing requested arrivals connected) line.now trial)
-        out.old (after hashes parents sequences counts flags map tips tails missing requested arrivals connected)
+        (held_of (before hashes parents sequences counts flags tips tails missing requested arrivals connected) line.now trial)
+        out.old (after hashes parents sequences counts flags tips tails missing requested arrivals connected)
         out.new result }
 {
     let last = end_last(
-        hashes, parents, sequences, counts, flags, map, tips, tails, missing, requested, arrivals,
+        hashes, parents, sequences, counts, flags, tips, tails, missing, requested, arrivals,
         connected, line, trial, out,
     );
     let left = last.trial;

@@ -32,7 +32,6 @@ fn asked(trial: Trial, line: Line) -> Trial
         Line::Remove(_) => trial,
         Line::Under(_) => trial,
         Line::Screen => trial,
-        Line::Total => trial,
         Line::Timer(_, _) => trial,
         Line::Restart(_) => trial,
         Line::Unread => trial,
@@ -76,7 +75,6 @@ fn end_line(
     sequences: &mut [u32; 1025],
     counts: &mut [u8; 1025],
     flags: &mut [u8; 1025],
-    map: &mut [u64; 17],
     tips: &mut [u32; 65],
     tails: &mut [u32; 65],
     missing: &mut [u8; 2080],
@@ -89,9 +87,9 @@ fn end_line(
     at: usize,
 ) -> Printed
     ensures { (bytes : List ℕ)
-        → DoesLine (held_of (before hashes parents sequences counts flags map tips tails missing requested arrivals connected) bytes trial) line
+        → DoesLine (held_of (before hashes parents sequences counts flags tips tails missing requested arrivals connected) bytes trial) line
         out.old at
-        (held_of (after hashes parents sequences counts flags map tips tails missing requested arrivals connected) bytes result.trial)
+        (held_of (after hashes parents sequences counts flags tips tails missing requested arrivals connected) bytes result.trial)
         out.new result.at }
 {
     let sizes = asked(trial, line);
@@ -101,7 +99,6 @@ fn end_line(
         sequences,
         counts,
         flags,
-        map,
         tips,
         tails,
         missing,
@@ -129,7 +126,6 @@ fn take_byte(
     sequences: &mut [u32; 1025],
     counts: &mut [u8; 1025],
     flags: &mut [u8; 1025],
-    map: &mut [u64; 17],
     tips: &mut [u32; 65],
     tails: &mut [u32; 65],
     missing: &mut [u8; 2080],
@@ -143,16 +139,16 @@ fn take_byte(
     at: usize,
 ) -> Printed
     ensures { TakesByte
-        (held_of (before hashes parents sequences counts flags map tips tails missing requested arrivals connected) line.old
+        (held_of (before hashes parents sequences counts flags tips tails missing requested arrivals connected) line.old
         trial) byte out.old at
-        (held_of (after hashes parents sequences counts flags map tips tails missing requested arrivals connected) line.new
+        (held_of (after hashes parents sequences counts flags tips tails missing requested arrivals connected) line.new
         result.trial) out.new result.at }
 {
     if byte == b'\n' {
         let whole = line_of(line, trial.begun);
         return end_line(
-            hashes, parents, sequences, counts, flags, map, tips, tails, missing, requested,
-            arrivals, connected, trial, whole, out, at,
+            hashes, parents, sequences, counts, flags, tips, tails, missing, requested, arrivals,
+            connected, trial, whole, out, at,
         );
     }
     let begun = join(line, trial.begun, byte);
@@ -173,7 +169,6 @@ pub fn take_bytes(
     sequences: &mut [u32; 1025],
     counts: &mut [u8; 1025],
     flags: &mut [u8; 1025],
-    map: &mut [u64; 17],
     tips: &mut [u32; 65],
     tails: &mut [u32; 65],
     missing: &mut [u8; 2080],
@@ -187,9 +182,9 @@ pub fn take_bytes(
     out: &mut [u8],
 ) -> Printed
     ensures { TakesBytes
-        (held_of (before hashes parents sequences counts flags map tips tails missing requested arrivals connected) line.old
+        (held_of (before hashes parents sequences counts flags tips tails missing requested arrivals connected) line.old
         trial) (take most bytes.now) out.old
-        (held_of (after hashes parents sequences counts flags map tips tails missing requested arrivals connected) line.new
+        (held_of (after hashes parents sequences counts flags tips tails missing requested arrivals connected) line.new
         result.trial) out.new result.at }
 {
     let n = least(most, bytes.len());
@@ -202,7 +197,6 @@ pub fn take_bytes(
             sequences,
             counts,
             flags,
-            map,
             tips,
             tails,
             missing,
@@ -227,7 +221,6 @@ pub fn end_last(
     sequences: &mut [u32; 1025],
     counts: &mut [u8; 1025],
     flags: &mut [u8; 1025],
-    map: &mut [u64; 17],
     tips: &mut [u32; 65],
     tails: &mut [u32; 65],
     missing: &mut [u8; 2080],
@@ -239,9 +232,9 @@ pub fn end_last(
     out: &mut [u8],
 ) -> Printed
     ensures { EndsLast
-        (held_of (before hashes parents sequences counts flags map tips tails missing requested arrivals connected) line.now
+        (held_of (before hashes parents sequences counts flags tips tails missing requested arrivals connected) line.now
         trial) out.old
-        (held_of (after hashes parents sequences counts flags map tips tails missing requested arrivals connected) line.now
+        (held_of (after hashes parents sequences counts flags tips tails missing requested arrivals connected) line.now
         result.trial) out.new result.at }
 {
     if trial.begun == 0 {
@@ -249,7 +242,7 @@ pub fn end_last(
     }
     let whole = line_of(line, trial.begun);
     end_line(
-        hashes, parents, sequences, counts, flags, map, tips, tails, missing, requested, arrivals,
+        hashes, parents, sequences, counts, flags, tips, tails, missing, requested, arrivals,
         connected, trial, whole, out, 0,
     )
 }

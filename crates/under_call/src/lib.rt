@@ -120,7 +120,6 @@ pub fn under(
     sequences: &[u32],
     counts: &[u8],
     flags: &[u8],
-    map: &[u64],
     tips: &[u32],
     tails: &[u32],
     missing: &[u8],
@@ -130,13 +129,13 @@ pub fn under(
     slot: BlockSlot,
 ) -> Hanging
     ensures { (active_head : ℕ) → Does (hanging_said result)
-        (after hashes parents sequences counts flags map tips tails missing requested arrivals connected)
+        (after hashes parents sequences counts flags tips tails missing requested arrivals connected)
         (under_rule
-        (state_of (before hashes parents sequences counts flags map tips tails missing requested arrivals connected) active_head)
+        (state_of (before hashes parents sequences counts flags tips tails missing requested arrivals connected) active_head)
         slot.0) }
 {
     if !is_shaped(
-        hashes, parents, sequences, counts, flags, map, tips, tails, missing, requested, arrivals,
+        hashes, parents, sequences, counts, flags, tips, tails, missing, requested, arrivals,
         connected,
     ) {
         return Hanging::Refused(Refusal::Shape);

@@ -37,12 +37,10 @@ pub(crate) fn load_blocks<const N: usize>(t: &Tables) -> Box<BlockTable<N>> {
     unsafe { room.assume_init() }
 }
 
-/// The original has no map; what stands in its place is the true one.
 pub(crate) fn store_blocks<const N: usize>(table: &BlockTable<N>, t: &mut Tables) {
     for (slot, entry) in table.blocks.iter().enumerate() {
         t.set_block(slot, block(entry));
     }
-    t.mend_map();
 }
 
 fn changing<const N: usize, R>(t: &mut Tables, act: impl FnOnce(&mut BlockTable<N>) -> R) -> R {
@@ -63,11 +61,6 @@ pub fn find(t: &Tables, sequence: u32, hash: Hash) -> Option<u32> {
 
 pub fn next_free_index(t: &Tables) -> Option<u32> {
     by_n!(t.n(), N => load_blocks::<N>(t).next_free_index())
-}
-
-/// How many slots are occupied.
-pub fn len(t: &Tables) -> usize {
-    by_n!(t.n(), N => load_blocks::<N>(t).len())
 }
 
 pub fn find_parent(t: &Tables, previous: Hash, sequence: u32) -> Option<u32> {

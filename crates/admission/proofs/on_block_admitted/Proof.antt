@@ -98,12 +98,6 @@ same-length-11 c =
     let q = to-place-head (to-tips p) in
     omega (arith, p.resolve-pending-tails.kept, q.place-head.kept, (to-adjust-head-ref-count q).adjust-head-ref-count.kept)
 
-same-length-12 : tie.Need-same-length-12
-same-length-12 c =
-    let p : tie.After-resolve-pending-tails = search in
-    let q = to-place-head (to-tips p) in
-    omega (arith, p.resolve-pending-tails.kept, q.place-head.kept, (to-adjust-head-ref-count q).adjust-head-ref-count.kept)
-
 -- the three steps as one, of any tables
 steps : (t u v : Tables) (counts : List ℕ) (block : ℕ) (parent : Option ℕ) (previous : List ℕ) (arrival active_head : ℕ)
     → counts ≡ adjust_counts t.blocks.sequences t.blocks.counts block (pos 1)
@@ -118,7 +112,7 @@ returns c =
     let h = to-place-head (to-tips r) in
     let n = to-adjust-head-ref-count h in
     let a = (start n).args in
-    steps (tables_of a.hashes.now a.parents.now a.sequences.now a.counts.now a.flags.now a.map.now a.tips.now a.tails.now a.missing.now a.requested.now a.arrivals.now a.connected.now) _ _ _ _ _ _ _ _ n.adjust-head-ref-count.ensures.1 h.place-head.ensures
+    steps (tables_of a.hashes.now a.parents.now a.sequences.now a.counts.now a.flags.now a.tips.now a.tails.now a.missing.now a.requested.now a.arrivals.now a.connected.now) _ _ _ _ _ _ _ _ n.adjust-head-ref-count.ensures.1 h.place-head.ensures
     r.resolve-pending-tails.ensures
 
 pub on-block-admitted-spec : {M : Type 1} → statement M
@@ -139,5 +133,4 @@ on-block-admitted-spec =
     same-length-9
     same-length-10
     same-length-11
-    same-length-12
     returns)

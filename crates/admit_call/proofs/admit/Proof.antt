@@ -66,14 +66,14 @@ same-length-10 c = refl
 same-length-11 : tie.Need-same-length-11
 same-length-11 c = refl
 
-same-length-12 : tie.Need-same-length-12
-same-length-12 c = refl
-
 returns : tie.Need-returns
 returns c =
     let y = the tie.After-reply (search) in
     let w = the tie.After-why (search) in
     admit-refused _ _ _ _ _ _ (sym (ap admitted_said w.why.given.1) ∙ y.reply.ensures _ _)
+
+same-length-12 : tie.Need-same-length-12
+same-length-12 c = let a = (the tie.After-admit-at (search)).admit-at in omega (arith, a.kept)
 
 same-length-13 : tie.Need-same-length-13
 same-length-13 c = let a = (the tie.After-admit-at (search)).admit-at in omega (arith, a.kept)
@@ -105,12 +105,6 @@ same-length-21 c = let a = (the tie.After-admit-at (search)).admit-at in omega (
 same-length-22 : tie.Need-same-length-22
 same-length-22 c = let a = (the tie.After-admit-at (search)).admit-at in omega (arith, a.kept)
 
-same-length-23 : tie.Need-same-length-23
-same-length-23 c = let a = (the tie.After-admit-at (search)).admit-at in omega (arith, a.kept)
-
-same-length-24 : tie.Need-same-length-24
-same-length-24 c = let a = (the tie.After-admit-at (search)).admit-at in omega (arith, a.kept)
-
 returns-2 : tie.Need-returns-2
 returns-2 c =
     let a = the tie.After-admit-at (search) in
@@ -139,8 +133,8 @@ admit-spec =
     same-length-9
     same-length-10
     same-length-11
-    same-length-12
     returns
+    same-length-12
     same-length-13
     same-length-14
     same-length-15
@@ -151,6 +145,4 @@ admit-spec =
     same-length-20
     same-length-21
     same-length-22
-    same-length-23
-    same-length-24
     returns-2)

@@ -26,14 +26,14 @@ returns : tie.Need-returns
 returns c =
     let p = let q : tie.After-is-shaped = search in (to_start q).args in
     let e = let q : tie.After-is-shaped = search in sym q.is-shaped.ensures ∙ not-true q.is-shaped.result c.if1.true in
-    λ a r. misshapen (state_of (tables_of p.hashes.now p.parents.now p.sequences.now p.counts.now p.flags.now p.map.now p.tips.now p.tails.now p.missing.now p.requested.now p.arrivals.now p.connected.now) a) p.sequence.0 p.hash.now p.previous.now _ e
+    λ a r. misshapen (state_of (tables_of p.hashes.now p.parents.now p.sequences.now p.counts.now p.flags.now p.tips.now p.tails.now p.missing.now p.requested.now p.arrivals.now p.connected.now) a) p.sequence.0 p.hash.now p.previous.now _ e
 
 returns-2 : tie.Need-returns-2
 returns-2 c =
     let p = let q : tie.After-is-shaped = search in (to_start q).args in
     let if1 = let p : tie.Else1 = search in p.if1 in
     let e = let q : tie.After-is-shaped = search in sym q.is-shaped.ensures ∙ not-false q.is-shaped.result if1.left in
-    λ a r. hash-cut (state_of (tables_of p.hashes.now p.parents.now p.sequences.now p.counts.now p.flags.now p.map.now p.tips.now p.tails.now p.missing.now p.requested.now p.arrivals.now p.connected.now) a) p.sequence.0 p.hash.now p.previous.now _ e c.if2.true
+    λ a r. hash-cut (state_of (tables_of p.hashes.now p.parents.now p.sequences.now p.counts.now p.flags.now p.tips.now p.tails.now p.missing.now p.requested.now p.arrivals.now p.connected.now) a) p.sequence.0 p.hash.now p.previous.now _ e c.if2.true
 
 returns-3 : tie.Need-returns-3
 returns-3 c =
@@ -41,7 +41,7 @@ returns-3 c =
     let if1 = let p : tie.Else1 = search in p.if1 in
     let if2 = let p : tie.Else2 = search in p.if2 in
     let e = let q : tie.After-is-shaped = search in sym q.is-shaped.ensures ∙ not-false q.is-shaped.result if1.left in
-    λ a r. previous-cut (state_of (tables_of p.hashes.now p.parents.now p.sequences.now p.counts.now p.flags.now p.map.now p.tips.now p.tails.now p.missing.now p.requested.now p.arrivals.now p.connected.now) a) p.sequence.0 p.hash.now p.previous.now _ e if2.left c.if3.true
+    λ a r. previous-cut (state_of (tables_of p.hashes.now p.parents.now p.sequences.now p.counts.now p.flags.now p.tips.now p.tails.now p.missing.now p.requested.now p.arrivals.now p.connected.now) a) p.sequence.0 p.hash.now p.previous.now _ e if2.left c.if3.true
 
 returns-4 : tie.Need-returns-4
 returns-4 c =
@@ -50,7 +50,7 @@ returns-4 c =
     let if2 = let p : tie.Else2 = search in p.if2 in
     let if3 = let p : tie.Else3 = search in p.if3 in
     let e = let q : tie.After-is-shaped = search in sym q.is-shaped.ensures ∙ not-false q.is-shaped.result if1.left in
-    λ a r. reserved (state_of (tables_of p.hashes.now p.parents.now p.sequences.now p.counts.now p.flags.now p.map.now p.tips.now p.tails.now p.missing.now p.requested.now p.arrivals.now p.connected.now) a) p.sequence.0 p.hash.now p.previous.now _ e if2.left if3.left c.if4.true
+    λ a r. reserved (state_of (tables_of p.hashes.now p.parents.now p.sequences.now p.counts.now p.flags.now p.tips.now p.tails.now p.missing.now p.requested.now p.arrivals.now p.connected.now) a) p.sequence.0 p.hash.now p.previous.now _ e if2.left if3.left c.if4.true
 
 hash-at-requires : tie.Need-hash-at-requires
 hash-at-requires c κs = tt
@@ -70,7 +70,7 @@ returns-5 c =
     let same-hash = let p : tie.After-same-hash = search in p.same-hash in
     let o : hash_at.result ≡ p.hash.now = hash_at.ensures ∙ own-hash p.hash.now if2.left in
     let z : same_hash p.hash.now zero_hash ≡ true = ap (λ (x : List ℕ). same_hash x zero_hash) (sym o) ∙ sym same-hash.ensures ∙ c.if5.true in
-    λ a r. zeros (state_of (tables_of p.hashes.now p.parents.now p.sequences.now p.counts.now p.flags.now p.map.now p.tips.now p.tails.now p.missing.now p.requested.now p.arrivals.now p.connected.now) a) p.sequence.0 p.hash.now p.previous.now _ e if2.left if3.left if4.left z
+    λ a r. zeros (state_of (tables_of p.hashes.now p.parents.now p.sequences.now p.counts.now p.flags.now p.tips.now p.tails.now p.missing.now p.requested.now p.arrivals.now p.connected.now) a) p.sequence.0 p.hash.now p.previous.now _ e if2.left if3.left if4.left z
 
 is-known-requires : tie.Need-is-known-requires
 is-known-requires c κs = tt
@@ -91,7 +91,7 @@ returns-6 c =
     let is_Known = let p : tie.After-is-known = search in p.is_Known in
     let k : is_some (find p.hashes.now p.sequences.now p.sequence.0 p.hash.now) ≡ true =
     ap (λ (x : List ℕ). is_some (find p.hashes.now p.sequences.now p.sequence.0 x)) (sym o) ∙ sym is_Known.ensures ∙ c.if6.true in
-    λ a r. there (state_of (tables_of p.hashes.now p.parents.now p.sequences.now p.counts.now p.flags.now p.map.now p.tips.now p.tails.now p.missing.now p.requested.now p.arrivals.now p.connected.now) a) p.sequence.0 p.hash.now p.previous.now _ e if2.left if3.left if4.left z k
+    λ a r. there (state_of (tables_of p.hashes.now p.parents.now p.sequences.now p.counts.now p.flags.now p.tips.now p.tails.now p.missing.now p.requested.now p.arrivals.now p.connected.now) a) p.sequence.0 p.hash.now p.previous.now _ e if2.left if3.left if4.left z k
 
 next-free-index-requires : tie.Need-next-free-index-requires
 next-free-index-requires c κs = tt
@@ -120,7 +120,7 @@ returns-7 c =
     let k : is_some (find p.hashes.now p.sequences.now p.sequence.0 p.hash.now) ≡ false =
     ap (λ (x : List ℕ). is_some (find p.hashes.now p.sequences.now p.sequence.0 x)) (sym o) ∙ sym is_Known.ensures ∙ if6.left in
     let next-free-index = let p : tie.After-next-free-index = search in p.next-free-index in
-    λ a r. full (state_of (tables_of p.hashes.now p.parents.now p.sequences.now p.counts.now p.flags.now p.map.now p.tips.now p.tails.now p.missing.now p.requested.now p.arrivals.now p.connected.now) a) p.sequence.0 p.hash.now p.previous.now _ e if2.left if3.left if4.left z k (sym next-free-index.ensures ∙ ap slot_found c.enum_told.given.1)
+    λ a r. full (state_of (tables_of p.hashes.now p.parents.now p.sequences.now p.counts.now p.flags.now p.tips.now p.tails.now p.missing.now p.requested.now p.arrivals.now p.connected.now) a) p.sequence.0 p.hash.now p.previous.now _ e if2.left if3.left if4.left z k (sym next-free-index.ensures ∙ ap slot_found c.enum_told.given.1)
 
 returns-8 : tie.Need-returns-8
 returns-8 c =
@@ -141,7 +141,7 @@ returns-8 c =
     ap (λ (x : List ℕ). is_some (find p.hashes.now p.sequences.now p.sequence.0 x)) (sym o) ∙ sym is_Known.ensures ∙ if6.left in
     let next-free-index = let p : tie.After-next-free-index = search in p.next-free-index in
     let slot = let p : tie.After-slot = search in p.slot in
-    λ a r. placed (state_of (tables_of p.hashes.now p.parents.now p.sequences.now p.counts.now p.flags.now p.map.now p.tips.now p.tails.now p.missing.now p.requested.now p.arrivals.now p.connected.now) a) p.sequence.0 p.hash.now p.previous.now _ e if2.left if3.left if4.left z k _ (sym next-free-index.ensures ∙ ap slot_found slot.given.1)
+    λ a r. placed (state_of (tables_of p.hashes.now p.parents.now p.sequences.now p.counts.now p.flags.now p.tips.now p.tails.now p.missing.now p.requested.now p.arrivals.now p.connected.now) a) p.sequence.0 p.hash.now p.previous.now _ e if2.left if3.left if4.left z k _ (sym next-free-index.ensures ∙ ap slot_found slot.given.1)
 
 pub reply-spec : {M : Type 1} → statement M
 reply-spec =

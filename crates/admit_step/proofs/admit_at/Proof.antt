@@ -28,7 +28,7 @@ below c = search
 abbrev start : tie.After-slot-or-none → tie.Start
 start c = search
 
-hash-whole : (s : tie.Start) → length s.args.t17 ≡ hash_length
+hash-whole : (s : tie.Start) → length s.args.t16 ≡ hash_length
 hash-whole s = search rules
 
 -- the steps as one, of any tables
@@ -115,11 +115,6 @@ same-length-11 c =
     let t = the tie.After-refresh-tails (search) in
     omega (arith, t.refresh-tails.kept, (admitted t).on-block-admitted.kept, (inserted (admitted t)).insert-at.auto)
 
-same-length-12 : tie.Need-same-length-12
-same-length-12 c =
-    let t = the tie.After-refresh-tails (search) in
-    omega (arith, t.refresh-tails.kept, (admitted t).on-block-admitted.kept, (inserted (admitted t)).insert-at.auto)
-
 returns : tie.Need-returns
 returns c =
     let t = the tie.After-refresh-tails (search) in
@@ -127,7 +122,7 @@ returns c =
     let i = inserted a in
     let s = below i in
     let p = (start s).args in
-    steps (state_of (tables_of p.hashes.now p.parents.now p.sequences.now p.counts.now p.flags.now p.map.now p.tips.now p.tails.now p.missing.now p.requested.now p.arrivals.now p.connected.now) p.active.0) _ _ _ _ _ _ _ _ _ _ s.before.find-parent.ensures s.slot-or-none.ensures i.insert-at.ensures a.on-block-admitted.ensures
+    steps (state_of (tables_of p.hashes.now p.parents.now p.sequences.now p.counts.now p.flags.now p.tips.now p.tails.now p.missing.now p.requested.now p.arrivals.now p.connected.now) p.active.0) _ _ _ _ _ _ _ _ _ _ s.before.find-parent.ensures s.slot-or-none.ensures i.insert-at.ensures a.on-block-admitted.ensures
     t.refresh-tails.ensures
 
 pub admit-at-spec : {M : Type 1} → statement M
@@ -151,5 +146,4 @@ admit-at-spec =
     same-length-9
     same-length-10
     same-length-11
-    same-length-12
     returns)

@@ -39,9 +39,6 @@ same-length-5 c = search rules
 same-length-6 : tie.Need-same-length-6
 same-length-6 c = search rules
 
-same-length-7 : tie.Need-same-length-7
-same-length-7 c = search rules
-
 returns-2 : tie.Need-returns-2
 unfolding delete
 returns-2 c =
@@ -66,5 +63,4 @@ delete-spec =
     same-length-4
     same-length-5
     same-length-6
-    same-length-7
     returns-2)

@@ -1,4 +1,4 @@
--- The reserved sequence, no free slot, the lowest.
+-- The reserved sequence, a full table, the lowest empty slot.
 use mathlib.Core.Path.{◌≡◌, sym, ap, ◌∙◌}
 use Rattle.rules.specs.Answers.{slot_found}
 use borrow.Author.Rules.{rules}
@@ -21,9 +21,6 @@ enum_told c = search rules
 same_length : tie.Need-same-length
 same_length c = search rules
 
-same-length-2 : tie.Need-same-length-2
-same-length-2 c = search rules
-
 returns-2 : tie.Need-returns-2
 returns-2 c =
     let f : tie.Else1 = search in
@@ -31,6 +28,9 @@ returns-2 c =
 
 insert-at-requires : tie.Need-insert-at-requires
 insert-at-requires c κs = tt
+
+same-length-2 : tie.Need-same-length-2
+same-length-2 c = search rules
 
 same-length-3 : tie.Need-same-length-3
 same-length-3 c = search rules
@@ -43,12 +43,6 @@ same-length-5 c = search rules
 
 same-length-6 : tie.Need-same-length-6
 same-length-6 c = search rules
-
-same-length-7 : tie.Need-same-length-7
-same-length-7 c = search rules
-
-same-length-8 : tie.Need-same-length-8
-same-length-8 c = search rules
 
 returns-3 : tie.Need-returns-3
 returns-3 c =
@@ -66,13 +60,11 @@ insert-spec =
     enum-known-slot
     enum_told
     same_length
-    same-length-2
     returns-2
     insert-at-requires
+    same-length-2
     same-length-3
     same-length-4
     same-length-5
     same-length-6
-    same-length-7
-    same-length-8
     returns-3)

@@ -29,9 +29,6 @@ same-length-4 c = search rules
 same-length-5 : tie.Need-same-length-5
 same-length-5 c = search rules
 
-same-length-6 : tie.Need-same-length-6
-same-length-6 c = search rules
-
 returns : tie.Need-returns
 unfolding insert_at
 returns c =
@@ -42,8 +39,8 @@ returns c =
     let l : args.slot.0 < slots_of args.sequences.now = rw slots.ensures at if1.taken in
     put-block.ensures ∙ rw (lt-ltb _ _ l)
 
-same-length-7 : tie.Need-same-length-7
-same-length-7 c = search rules
+same-length-6 : tie.Need-same-length-6
+same-length-6 c = search rules
 
 returns-2 : tie.Need-returns-2
 unfolding insert_at
@@ -64,7 +61,6 @@ insert-at-spec =
     same-length-3
     same-length-4
     same-length-5
-    same-length-6
     returns
-    same-length-7
+    same-length-6
     returns-2)

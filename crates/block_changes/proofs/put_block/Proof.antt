@@ -1,4 +1,4 @@
--- The six stores.
+-- The five stores.
 use Rattle.rules.specs.Records.{put_block}
 use borrow.Author.Rules.{rules}
 use Rattle.block_changes.proofs.put_block.Statement.{statement}
@@ -19,9 +19,6 @@ put-byte-requires c κs = tt
 put-byte-requires-2 : tie.Need-put-byte-requires-2
 put-byte-requires-2 c κs = tt
 
-put-bit-requires : tie.Need-put-bit-requires
-put-bit-requires c κs = tt
-
 same_length : tie.Need-same-length
 same_length c = search rules
 
@@ -37,9 +34,6 @@ same-length-4 c = search rules
 same-length-5 : tie.Need-same-length-5
 same-length-5 c = search rules
 
-same-length-6 : tie.Need-same-length-6
-same-length-6 c = search rules
-
 returns : tie.Need-returns
 unfolding put_block
 returns c =
@@ -48,8 +42,7 @@ returns c =
     let put-word2 = let p : tie.After-put-word2 = search in p.put-word2 in
     let put_byte = let p : tie.After-put-byte = search in p.put_byte in
     let put-byte2 = let p : tie.After-put-byte2 = search in p.put-byte2 in
-    let put-bit = let p : tie.After-put-bit = search in p.put-bit in
-    rw (put-hash.ensures, put_word.ensures, put-word2.ensures, put_byte.ensures, put-byte2.ensures, put-bit.ensures)
+    rw (put-hash.ensures, put_word.ensures, put-word2.ensures, put_byte.ensures, put-byte2.ensures)
 
 pub put-block-spec : {M : Type 1} → statement M
 put-block-spec =
@@ -60,11 +53,9 @@ put-block-spec =
     put-word-requires-2
     put-byte-requires
     put-byte-requires-2
-    put-bit-requires
     same_length
     same-length-2
     same-length-3
     same-length-4
     same-length-5
-    same-length-6
     returns)

@@ -30,7 +30,7 @@ empty-requires c κs = tt
 returns : tie.Need-returns
 returns c =
     let w = the tie.After-empty (search) in
-    λ map. ap (λ (b : Block). record { there = false; block = b }) w.empty.ensures ∙ sym (got-nothing _ _ (free (tested w)))
+    ap (λ (b : Block). record { there = false; block = b }) w.empty.ensures ∙ sym (got-nothing _ _ (free (tested w)))
 
 hash-at-requires : tie.Need-hash-at-requires
 hash-at-requires c κs = tt
@@ -55,7 +55,7 @@ returns-2 c =
     let word-at2 = let p : tie.After-word-at2 = search in p.word-at2 in
     let byte_at = let p : tie.After-byte-at = search in p.byte_at in
     let byte-at2 = let p : tie.After-byte-at2 = search in p.byte-at2 in
-    λ map. rw (hash_at.ensures, word_at.ensures, word-at2.ensures, byte_at.ensures, byte-at2.ensures)
+    rw (hash_at.ensures, word_at.ensures, word-at2.ensures, byte_at.ensures, byte-at2.ensures)
     (sym (got-there _ _ (taken (the tie.Else1 (search)))))
 
 pub get_spec : {M : Type 1} → statement M

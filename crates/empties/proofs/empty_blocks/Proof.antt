@@ -1,4 +1,4 @@
--- Six fills.
+-- Five fills.
 use native.Mathlib.Omega.{arith}
 use Rattle.rules.proofs.Places.{the}
 use Rattle.empties.proofs.empty_blocks.Statement.{statement}
@@ -19,9 +19,6 @@ fill-bytes-requires-2 c κs = tt
 fill-bytes-requires-3 : tie.Need-fill-bytes-requires-3
 fill-bytes-requires-3 c κs = tt
 
-fill-wide-words-requires : tie.Need-fill-wide-words-requires
-fill-wide-words-requires c κs = tt
-
 same_length : tie.Need-same-length
 same_length c = omega (arith, (the tie.After-fill-bytes (search)).fill-bytes.kept)
 
@@ -35,10 +32,7 @@ same-length-4 : tie.Need-same-length-4
 same-length-4 c = omega (arith, (the tie.After-fill-bytes2 (search)).fill-bytes2.kept)
 
 same-length-5 : tie.Need-same-length-5
-same-length-5 c = omega (arith, (the tie.After-fill-bytes3 (search)).fill-bytes3.kept)
-
-same-length-6 : tie.Need-same-length-6
-same-length-6 c = omega arith
+same-length-5 c = omega arith
 
 returns : tie.Need-returns
 returns c =
@@ -47,8 +41,7 @@ returns c =
     let fill-words2 = let p : tie.After-fill-words2 = search in p.fill-words2 in
     let fill-bytes2 = let p : tie.After-fill-bytes2 = search in p.fill-bytes2 in
     let fill-bytes3 = let p : tie.After-fill-bytes3 = search in p.fill-bytes3 in
-    let fill-wide-words = let p : tie.After-fill-wide-words = search in p.fill-wide-words in
-    rw (fill-bytes.ensures, fill-words.ensures, fill-words2.ensures, fill-bytes2.ensures, fill-bytes3.ensures, fill-wide-words.ensures)
+    rw (fill-bytes.ensures, fill-words.ensures, fill-words2.ensures, fill-bytes2.ensures, fill-bytes3.ensures)
 
 pub empty-blocks-spec : {M : Type 1} → statement M
 empty-blocks-spec =
@@ -59,11 +52,9 @@ empty-blocks-spec =
     fill-words-requires-2
     fill-bytes-requires-2
     fill-bytes-requires-3
-    fill-wide-words-requires
     same_length
     same-length-2
     same-length-3
     same-length-4
     same-length-5
-    same-length-6
     returns)

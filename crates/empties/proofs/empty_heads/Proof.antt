@@ -13,11 +13,11 @@ fill-words-requires-2 c κs = tt
 fill-bytes-requires : tie.Need-fill-bytes-requires
 fill-bytes-requires c κs = tt
 
-fill-wide-words-requires : tie.Need-fill-wide-words-requires
-fill-wide-words-requires c κs = tt
+fill-times-requires : tie.Need-fill-times-requires
+fill-times-requires c κs = tt
 
-fill-wide-words-requires-2 : tie.Need-fill-wide-words-requires-2
-fill-wide-words-requires-2 c κs = tt
+fill-times-requires-2 : tie.Need-fill-times-requires-2
+fill-times-requires-2 c κs = tt
 
 fill-bytes-requires-2 : tie.Need-fill-bytes-requires-2
 fill-bytes-requires-2 c κs = tt
@@ -32,10 +32,10 @@ same-length-3 : tie.Need-same-length-3
 same-length-3 c = omega (arith, (the tie.After-fill-bytes (search)).fill-bytes.kept)
 
 same-length-4 : tie.Need-same-length-4
-same-length-4 c = omega (arith, (the tie.After-fill-wide-words (search)).fill-wide-words.kept)
+same-length-4 c = omega (arith, (the tie.After-fill-times (search)).fill-times.kept)
 
 same-length-5 : tie.Need-same-length-5
-same-length-5 c = omega (arith, (the tie.After-fill-wide-words2 (search)).fill-wide-words2.kept)
+same-length-5 c = omega (arith, (the tie.After-fill-times2 (search)).fill-times2.kept)
 
 same-length-6 : tie.Need-same-length-6
 same-length-6 c = omega arith
@@ -45,10 +45,10 @@ returns c =
     let fill-words = let p : tie.After-fill-words = search in p.fill-words in
     let fill-words2 = let p : tie.After-fill-words2 = search in p.fill-words2 in
     let fill-bytes = let p : tie.After-fill-bytes = search in p.fill-bytes in
-    let fill-wide-words = let p : tie.After-fill-wide-words = search in p.fill-wide-words in
-    let fill-wide-words2 = let p : tie.After-fill-wide-words2 = search in p.fill-wide-words2 in
+    let fill-times = let p : tie.After-fill-times = search in p.fill-times in
+    let fill-times2 = let p : tie.After-fill-times2 = search in p.fill-times2 in
     let fill-bytes2 = let p : tie.After-fill-bytes2 = search in p.fill-bytes2 in
-    rw (fill-words.ensures, fill-words2.ensures, fill-bytes.ensures, fill-wide-words.ensures, fill-wide-words2.ensures, fill-bytes2.ensures)
+    rw (fill-words.ensures, fill-words2.ensures, fill-bytes.ensures, fill-times.ensures, fill-times2.ensures, fill-bytes2.ensures)
 
 pub empty-heads-spec : {M : Type 1} → statement M
 empty-heads-spec =
@@ -57,8 +57,8 @@ empty-heads-spec =
     fill-words-requires
     fill-words-requires-2
     fill-bytes-requires
-    fill-wide-words-requires
-    fill-wide-words-requires-2
+    fill-times-requires
+    fill-times-requires-2
     fill-bytes-requires-2
     same_length
     same-length-2

@@ -81,11 +81,6 @@ same-length-11 c =
     let p : tie.After-put-head = search in
     omega (arith, p.put-head.kept, (to-evict-from p).evict-from.kept)
 
-same-length-12 : tie.Need-same-length-12
-same-length-12 c =
-    let p : tie.After-put-head = search in
-    omega (arith, p.put-head.kept, (to-evict-from p).evict-from.kept)
-
 -- the two steps as one, of any tables
 steps : (t : Tables) (b : Blocks) (h : Heads) (k tip : ℕ) (put : Head)
     → tip ≡ tip_at t.heads.tips k → b ≡ evict_from (slots_of t.blocks.sequences) t.blocks tip
@@ -119,5 +114,4 @@ evict-spec =
     same-length-9
     same-length-10
     same-length-11
-    same-length-12
     returns)

@@ -13,13 +13,13 @@ use Rattle.eviction.proofs.evict_from.Statement.{statement}
 use Rattle.eviction.proofs.evict_from.Tie as tie
 
 abbrev invariant-loop : tie.invariant-loop
-invariant-loop hashes₀ parents₀ sequences₀ counts₀ flags₀ map₀ n current₀ visits₀ hashes parents sequences counts flags map current visits =
-    let was = blocks_of hashes₀ parents₀ sequences₀ counts₀ flags₀ map₀ in
-    let b = blocks_of hashes parents sequences counts flags map in
+invariant-loop hashes₀ parents₀ sequences₀ counts₀ flags₀ n current₀ visits₀ hashes parents sequences counts flags current visits =
+    let was = blocks_of hashes₀ parents₀ sequences₀ counts₀ flags₀ in
+    let b = blocks_of hashes parents sequences counts flags in
     Turned visits n (SameBlocks b was) (evict_from n was current₀ ≡ evict_from (n - visits) b current)
 
 abbrev decreases-loop : tie.decreases-loop
-decreases-loop hashes₀ parents₀ sequences₀ counts₀ flags₀ map₀ n current₀ visits₀ hashes parents sequences counts flags map current visits = n - visits
+decreases-loop hashes₀ parents₀ sequences₀ counts₀ flags₀ n current₀ visits₀ hashes parents sequences counts flags current visits = n - visits
 
 abbrev to-loop : tie.After-visit invariant-loop decreases-loop → tie.At-loop invariant-loop decreases-loop
 to-loop c = search
@@ -61,18 +61,13 @@ same-length-5 c =
     let p : tie.After-visit invariant-loop decreases-loop = search in
     omega (arith, p.visit.kept, (to-loop p).loop.inv.lengths)
 
-same-length-6 : tie.Need-same-length-6 invariant-loop decreases-loop
-same-length-6 c =
-    let p : tie.After-visit invariant-loop decreases-loop = search in
-    omega (arith, p.visit.kept, (to-loop p).loop.inv.lengths)
-
 returns : tie.Need-returns invariant-loop decreases-loop
 returns c =
     let slots = let p : tie.After-slots invariant-loop decreases-loop = search in p.slots in
     let l = let p : tie.At-loop invariant-loop decreases-loop = search in p.loop in
     let loop-test = let p : tie.In-loop invariant-loop decreases-loop = search in p.loop-test in
     let visit = let p : tie.After-visit invariant-loop decreases-loop = search in p.visit in
-    let b = blocks_of l.hashes l.parents l.sequences l.counts l.flags l.map in
+    let b = blocks_of l.hashes l.parents l.sequences l.counts l.flags in
     let s = walk-stops (slots.result - l.visits) b l.current (omega (arith, loop-test.taken))
     (sym visit.ensures.0 ∙ ap slot_found c.enum_told.given.1) in
     rw (← slots.ensures) (visit.ensures.1 ∙ sym (l.inv.done ∙ s))
@@ -96,7 +91,7 @@ loop-again c =
     let loop-test = let p : tie.In-loop invariant-loop decreases-loop = search in p.loop-test in
     let v = let p : tie.After-visit invariant-loop decreases-loop = search in p.visit in
     let parent = let p : tie.After-parent invariant-loop decreases-loop = search in p.parent in
-    let b = blocks_of l.hashes l.parents l.sequences l.counts l.flags l.map in
+    let b = blocks_of l.hashes l.parents l.sequences l.counts l.flags in
     let k : ℕ = slots.result - (l.visits + 1) in
     let e : slots.result - l.visits ≡ suc k = omega (arith, loop-test.taken) in
     let g = walk-goes k b l.current _ (sym v.ensures.0 ∙ ap slot_found parent.given.1) in
@@ -105,6 +100,9 @@ loop-again c =
       lengths = omega (arith, v.kept, l.inv.lengths);
       done = l.inv.done ∙ rw e (g ∙ rw (← v.ensures.1));
     }
+
+same-length-6 : tie.Need-same-length-6 invariant-loop decreases-loop
+same-length-6 c = omega (arith, c.before.loop.invariant.lengths)
 
 same-length-7 : tie.Need-same-length-7 invariant-loop decreases-loop
 same-length-7 c = omega (arith, c.before.loop.invariant.lengths)
@@ -118,16 +116,10 @@ same-length-9 c = omega (arith, c.before.loop.invariant.lengths)
 same-length-10 : tie.Need-same-length-10 invariant-loop decreases-loop
 same-length-10 c = omega (arith, c.before.loop.invariant.lengths)
 
-same-length-11 : tie.Need-same-length-11 invariant-loop decreases-loop
-same-length-11 c = omega (arith, c.before.loop.invariant.lengths)
-
-same-length-12 : tie.Need-same-length-12 invariant-loop decreases-loop
-same-length-12 c = omega (arith, c.before.loop.invariant.lengths)
-
 returns-2 : tie.Need-returns-2 invariant-loop decreases-loop
 returns-2 c =
     let l = c.before.loop in
-    let b = blocks_of l.hashes l.parents l.sequences l.counts l.flags l.map in
+    let b = blocks_of l.hashes l.parents l.sequences l.counts l.flags in
     rw (← c.before.before.slots.ensures)
     (sym (l.invariant.done ∙ walk-spent (c.before.before.slots.result - l.visits) b l.current (omega arith)))
 
@@ -146,16 +138,14 @@ evict-from-spec =
     same-length-3
     same-length-4
     same-length-5
-    same-length-6
     returns
     enum-known-parent
     add-visits
     loop-less
     loop-again
+    same-length-6
     same-length-7
     same-length-8
     same-length-9
     same-length-10
-    same-length-11
-    same-length-12
     returns-2)

@@ -74,9 +74,6 @@ same-length-13 c = omega (arith, (the tie.After-evict (search)).evict.kept)
 same-length-14 : tie.Need-same-length-14
 same-length-14 c = omega (arith, (the tie.After-evict (search)).evict.kept)
 
-same-length-15 : tie.Need-same-length-15
-same-length-15 c = omega (arith, (the tie.After-evict (search)).evict.kept)
-
 returns-2 : tie.Need-returns-2
 unfolding evict_one
 returns-2 c =
@@ -110,5 +107,4 @@ evict-one-spec =
     same-length-12
     same-length-13
     same-length-14
-    same-length-15
     returns-2)

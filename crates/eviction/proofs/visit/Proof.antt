@@ -48,7 +48,7 @@ returns c =
     let is-on-active-chain = let p : tie.After-is-on-active-chain = search in p.is-on-active-chain in
     let adjust-head-ref-count = let p : tie.After-adjust-head-ref-count = search in p.adjust-head-ref-count in
     let count = let p : tie.After-count = search in p.count in
-    let b = blocks_of a.hashes.now a.parents.now a.sequences.now a.counts.now a.flags.now a.map.now in
+    let b = blocks_of a.hashes.now a.parents.now a.sequences.now a.counts.now a.flags.now in
     let v = visit-active b a.slot.0 _ (sym adjust-head-ref-count.ensures.0 ∙ ap count_got count.given.1)
     (sym is-on-active-chain.ensures ∙ c.if1.true) in
     (v.0, rw adjust-head-ref-count.ensures.1 v.1)
@@ -72,7 +72,7 @@ returns-2 c =
     let adjust-head-ref-count = let p : tie.After-adjust-head-ref-count = search in p.adjust-head-ref-count in
     let count = let p : tie.After-count = search in p.count in
     let if1 = let p : tie.Else1 = search in p.if1 in
-    let b = blocks_of a.hashes.now a.parents.now a.sequences.now a.counts.now a.flags.now a.map.now in
+    let b = blocks_of a.hashes.now a.parents.now a.sequences.now a.counts.now a.flags.now in
     let v = visit-shared b a.slot.0 _ (sym adjust-head-ref-count.ensures.0 ∙ ap count_got count.given.1)
     (sym is-on-active-chain.ensures ∙ if1.left) c.if2.true in
     (v.0, rw adjust-head-ref-count.ensures.1 v.1)
@@ -96,7 +96,7 @@ returns-3 : tie.Need-returns-3
 returns-3 c =
     let a = let p : tie.Start = search in p.args in
     let adjust-head-ref-count = let p : tie.After-adjust-head-ref-count = search in p.adjust-head-ref-count in
-    let b = blocks_of a.hashes.now a.parents.now a.sequences.now a.counts.now a.flags.now a.map.now in
+    let b = blocks_of a.hashes.now a.parents.now a.sequences.now a.counts.now a.flags.now in
     let v = visit-empty b a.slot.0 (sym adjust-head-ref-count.ensures.0 ∙ ap count_got c.enum_told.given.1) in
     (v.0, rw adjust-head-ref-count.ensures.1 v.1)
 
@@ -125,11 +125,6 @@ same-length-17 c =
     let p : tie.After-delete = search in
     omega (arith, p.delete.kept, (to-adjust-head-ref-count p).adjust-head-ref-count.kept)
 
-same-length-18 : tie.Need-same-length-18
-same-length-18 c =
-    let p : tie.After-delete = search in
-    omega (arith, p.delete.kept, (to-adjust-head-ref-count p).adjust-head-ref-count.kept)
-
 returns-4 : tie.Need-returns-4
 returns-4 c =
     let a = let p : tie.After-word-at = search in (to_start p).args in
@@ -140,7 +135,7 @@ returns-4 c =
     let if1 = let p : tie.Else1 = search in p.if1 in
     let if2 = let p : tie.Else2 = search in p.if2 in
     let delete = let p : tie.After-delete = search in p.delete in
-    let b = blocks_of a.hashes.now a.parents.now a.sequences.now a.counts.now a.flags.now a.map.now in
+    let b = blocks_of a.hashes.now a.parents.now a.sequences.now a.counts.now a.flags.now in
     let v = visit-frees b a.slot.0 _ (sym adjust-head-ref-count.ensures.0 ∙ ap count_got count.given.1)
     (sym is-on-active-chain.ensures ∙ if1.left) if2.left in
     (rw word_at.ensures v.0, delete.ensures.1 ∙ rw adjust-head-ref-count.ensures.1 v.1)
@@ -175,5 +170,4 @@ visit-spec =
     same-length-15
     same-length-16
     same-length-17
-    same-length-18
     returns-4)

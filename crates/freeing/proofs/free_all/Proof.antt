@@ -11,22 +11,22 @@ use Rattle.freeing.proofs.free_all.Statement.{statement}
 use Rattle.freeing.proofs.free_all.Tie as tie
 
 abbrev invariant-loop : tie.invariant-loop
-invariant-loop hashes₀ parents₀ sequences₀ counts₀ flags₀ map₀ deleted k₀ hashes parents sequences counts flags map k =
-    let was = blocks_of hashes₀ parents₀ sequences₀ counts₀ flags₀ map₀ in
-    let b = blocks_of hashes parents sequences counts flags map in
+invariant-loop hashes₀ parents₀ sequences₀ counts₀ flags₀ deleted k₀ hashes parents sequences counts flags k =
+    let was = blocks_of hashes₀ parents₀ sequences₀ counts₀ flags₀ in
+    let b = blocks_of hashes parents sequences counts flags in
     Turned k (length deleted) (SameBlocks b was) (free_all (drop k deleted) b ≡ free_all deleted was)
 
 abbrev decreases-loop : tie.decreases-loop
-decreases-loop hashes₀ parents₀ sequences₀ counts₀ flags₀ map₀ deleted k₀ hashes parents sequences counts flags map k = length deleted - k
+decreases-loop hashes₀ parents₀ sequences₀ counts₀ flags₀ deleted k₀ hashes parents sequences counts flags k = length deleted - k
 
 loop-holds : tie.Need-loop-init invariant-loop decreases-loop
 loop-holds c = record { within = omega arith; lengths = omega arith; done = refl }
 
-mul-t9 : tie.Need-overflow-mul-t9 invariant-loop decreases-loop
-mul-t9 c = omega arith
+mul-t8 : tie.Need-overflow-mul-t8 invariant-loop decreases-loop
+mul-t8 c = omega arith
 
-shared-slice-read-t24 : tie.Need-shared-slice-read-t24 invariant-loop decreases-loop
-shared-slice-read-t24 c = omega arith
+shared-slice-read-t21 : tie.Need-shared-slice-read-t21 invariant-loop decreases-loop
+shared-slice-read-t21 c = omega arith
 
 delete-requires : tie.Need-delete-requires invariant-loop decreases-loop
 delete-requires c κs = tt
@@ -46,7 +46,7 @@ loop-again c =
     let args = let p : tie.Start invariant-loop decreases-loop = search in p.args in
     let l = let p : tie.At-loop invariant-loop decreases-loop = search in p.loop in
     let u = let p : tie.After-delete invariant-loop decreases-loop = search in p.delete in
-    let b = blocks_of l.hashes l.parents l.sequences l.counts l.flags l.map in
+    let b = blocks_of l.hashes l.parents l.sequences l.counts l.flags in
     record {
       within = omega arith;
       lengths = omega (arith, u.kept, l.inv.lengths);
@@ -69,14 +69,11 @@ same-length-4 c = omega (arith, c.before.loop.invariant.lengths)
 same-length-5 : tie.Need-same-length-5 invariant-loop decreases-loop
 same-length-5 c = omega (arith, c.before.loop.invariant.lengths)
 
-same-length-6 : tie.Need-same-length-6 invariant-loop decreases-loop
-same-length-6 c = omega (arith, c.before.loop.invariant.lengths)
-
 returns : tie.Need-returns invariant-loop decreases-loop
 returns c =
     let args = let p : tie.Start invariant-loop decreases-loop = search in p.args in
     let l = let p : tie.At-loop invariant-loop decreases-loop = search in p.loop in
-    sym (free-end args.deleted.now l.k (blocks_of l.hashes l.parents l.sequences l.counts l.flags l.map) (omega arith)) ∙ l.inv.done
+    sym (free-end args.deleted.now l.k (blocks_of l.hashes l.parents l.sequences l.counts l.flags) (omega arith)) ∙ l.inv.done
 
 pub free-all-spec : {M : Type 1} → statement M
 free-all-spec =
@@ -85,8 +82,8 @@ free-all-spec =
     invariant-loop
     decreases-loop
     loop-holds
-    mul-t9
-    shared-slice-read-t24
+    mul-t8
+    shared-slice-read-t21
     delete-requires
     add-k
     loop-less
@@ -96,5 +93,4 @@ free-all-spec =
     same-length-3
     same-length-4
     same-length-5
-    same-length-6
     returns)

@@ -49,9 +49,6 @@ same-length-10 c = refl
 same-length-11 : tie.Need-same-length-11
 same-length-11 c = refl
 
-same-length-12 : tie.Need-same-length-12
-same-length-12 c = refl
-
 returns : tie.Need-returns
 returns c =
     let b = the tie.Then1 (search) in
@@ -63,6 +60,9 @@ empty-blocks-requires c κs = tt
 
 empty-heads-requires : tie.Need-empty-heads-requires
 empty-heads-requires c κs = tt
+
+same-length-12 : tie.Need-same-length-12
+same-length-12 c = let h = the tie.After-empty-heads (search) in omega (arith, h.empty-heads.kept, (blocks-done h).empty-blocks.kept)
 
 same-length-13 : tie.Need-same-length-13
 same-length-13 c = let h = the tie.After-empty-heads (search) in omega (arith, h.empty-heads.kept, (blocks-done h).empty-blocks.kept)
@@ -94,12 +94,6 @@ same-length-21 c = let h = the tie.After-empty-heads (search) in omega (arith, h
 same-length-22 : tie.Need-same-length-22
 same-length-22 c = let h = the tie.After-empty-heads (search) in omega (arith, h.empty-heads.kept, (blocks-done h).empty-blocks.kept)
 
-same-length-23 : tie.Need-same-length-23
-same-length-23 c = let h = the tie.After-empty-heads (search) in omega (arith, h.empty-heads.kept, (blocks-done h).empty-blocks.kept)
-
-same-length-24 : tie.Need-same-length-24
-same-length-24 c = let h = the tie.After-empty-heads (search) in omega (arith, h.empty-heads.kept, (blocks-done h).empty-blocks.kept)
-
 returns-2 : tie.Need-returns-2
 returns-2 c =
     let h = the tie.After-empty-heads (search) in
@@ -124,10 +118,10 @@ fresh-spec =
     same-length-9
     same-length-10
     same-length-11
-    same-length-12
     returns
     empty-blocks-requires
     empty-heads-requires
+    same-length-12
     same-length-13
     same-length-14
     same-length-15
@@ -138,6 +132,4 @@ fresh-spec =
     same-length-20
     same-length-21
     same-length-22
-    same-length-23
-    same-length-24
     returns-2)

@@ -75,11 +75,6 @@ same-length-11 c =
     let p : tie.After-seat-head = search in
     omega (arith, p.seat-head.kept, (to-make-room (to-tails p)).make-room.auto)
 
-same-length-12 : tie.Need-same-length-12
-same-length-12 c =
-    let p : tie.After-seat-head = search in
-    omega (arith, p.seat-head.kept, (to-make-room (to-tails p)).make-room.auto)
-
 -- the two steps as one, of any tables
 steps : (t u v : Tables) (tip arriving : ℕ) (previous : List ℕ) (arrival active_head : ℕ)
     → u ≡ make_room t active_head → v ≡ seat_head u tip arriving previous arrival → v ≡ insert_head t tip arriving previous arrival active_head
@@ -108,5 +103,4 @@ insert-head-spec =
     same-length-9
     same-length-10
     same-length-11
-    same-length-12
     returns)

@@ -59,9 +59,6 @@ same-length-10 c = omega (arith, (the tie.After-evict-one (search)).evict-one.ke
 same-length-11 : tie.Need-same-length-11
 same-length-11 c = omega (arith, (the tie.After-evict-one (search)).evict-one.kept)
 
-same-length-12 : tie.Need-same-length-12
-same-length-12 c = omega (arith, (the tie.After-evict-one (search)).evict-one.kept)
-
 returns : tie.Need-returns
 unfolding make_room
 returns c =
@@ -72,8 +69,8 @@ returns c =
     let f = sym first-empty.ensures ∙ ap head_found enum-told-call.given.1 in
     rw (f, make_room) evict-one.ensures
 
-same-length-13 : tie.Need-same-length-13
-same-length-13 c = refl
+same-length-12 : tie.Need-same-length-12
+same-length-12 c = refl
 
 returns-2 : tie.Need-returns-2
 unfolding make_room
@@ -100,7 +97,6 @@ make-room-spec =
     same-length-9
     same-length-10
     same-length-11
-    same-length-12
     returns
-    same-length-13
+    same-length-12
     returns-2)

@@ -74,11 +74,6 @@ same-length-11 c =
     let p : tie.After-insert-head = search in
     omega (arith, p.insert-head.kept, (to-adjust-head-ref-count p).adjust-head-ref-count.kept)
 
-same-length-12 : tie.Need-same-length-12
-same-length-12 c =
-    let p : tie.After-insert-head = search in
-    omega (arith, p.insert-head.kept, (to-adjust-head-ref-count p).adjust-head-ref-count.kept)
-
 -- the two steps as one, of any tables
 steps : (t v : Tables) (counts : List ℕ) (block parent : ℕ) (previous : List ℕ) (arrival active_head : ℕ)
     → counts ≡ adjust_counts t.blocks.sequences t.blocks.counts parent (pos 1)
@@ -109,5 +104,4 @@ fork-spec =
     same-length-9
     same-length-10
     same-length-11
-    same-length-12
     returns)

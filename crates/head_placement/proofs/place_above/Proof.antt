@@ -45,7 +45,7 @@ same-length-5 : tie.Need-same-length-5
 same-length-5 c = refl
 
 same-length-6 : tie.Need-same-length-6
-same-length-6 c = refl
+same-length-6 c = omega (arith, (the tie.After-move-up (search)).move_up.kept)
 
 same-length-7 : tie.Need-same-length-7
 same-length-7 c = omega (arith, (the tie.After-move-up (search)).move_up.kept)
@@ -62,9 +62,6 @@ same-length-10 c = omega (arith, (the tie.After-move-up (search)).move_up.kept)
 same-length-11 : tie.Need-same-length-11
 same-length-11 c = omega (arith, (the tie.After-move-up (search)).move_up.kept)
 
-same-length-12 : tie.Need-same-length-12
-same-length-12 c = omega (arith, (the tie.After-move-up (search)).move_up.kept)
-
 returns : tie.Need-returns
 unfolding place_head
 returns c =
@@ -73,6 +70,9 @@ returns c =
     let move_up = let p : tie.After-move-up = search in p.move_up in
     let f = sym slot-of-head.ensures ∙ ap head_found slot.given.1 in
     rw (f, place_head) move_up.ensures
+
+same-length-12 : tie.Need-same-length-12
+same-length-12 c = omega (arith, (the tie.After-fork (search)).fork.kept)
 
 same-length-13 : tie.Need-same-length-13
 same-length-13 c = omega (arith, (the tie.After-fork (search)).fork.kept)
@@ -104,12 +104,6 @@ same-length-21 c = omega (arith, (the tie.After-fork (search)).fork.kept)
 same-length-22 : tie.Need-same-length-22
 same-length-22 c = omega (arith, (the tie.After-fork (search)).fork.kept)
 
-same-length-23 : tie.Need-same-length-23
-same-length-23 c = omega (arith, (the tie.After-fork (search)).fork.kept)
-
-same-length-24 : tie.Need-same-length-24
-same-length-24 c = omega (arith, (the tie.After-fork (search)).fork.kept)
-
 returns-2 : tie.Need-returns-2
 unfolding place_head
 returns-2 c =
@@ -140,8 +134,8 @@ place-above-spec =
     same-length-9
     same-length-10
     same-length-11
-    same-length-12
     returns
+    same-length-12
     same-length-13
     same-length-14
     same-length-15
@@ -152,6 +146,4 @@ place-above-spec =
     same-length-20
     same-length-21
     same-length-22
-    same-length-23
-    same-length-24
     returns-2)

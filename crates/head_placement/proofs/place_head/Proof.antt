@@ -59,9 +59,6 @@ same-length-10 c = omega (arith, (the tie.After-insert-head (search)).insert-hea
 same-length-11 : tie.Need-same-length-11
 same-length-11 c = omega (arith, (the tie.After-insert-head (search)).insert-head.kept)
 
-same-length-12 : tie.Need-same-length-12
-same-length-12 c = omega (arith, (the tie.After-insert-head (search)).insert-head.kept)
-
 returns : tie.Need-returns
 unfolding place_head
 returns c =
@@ -69,6 +66,9 @@ returns c =
     let insert-head = let p : tie.After-insert-head = search in p.insert-head in
     let f = ap slot_found enum-told-call.given.1 in
     rw f insert-head.ensures
+
+same-length-12 : tie.Need-same-length-12
+same-length-12 c = omega (arith, (the tie.After-place-above (search)).place-above.kept)
 
 same-length-13 : tie.Need-same-length-13
 same-length-13 c = omega (arith, (the tie.After-place-above (search)).place-above.kept)
@@ -100,12 +100,6 @@ same-length-21 c = omega (arith, (the tie.After-place-above (search)).place-abov
 same-length-22 : tie.Need-same-length-22
 same-length-22 c = omega (arith, (the tie.After-place-above (search)).place-above.kept)
 
-same-length-23 : tie.Need-same-length-23
-same-length-23 c = omega (arith, (the tie.After-place-above (search)).place-above.kept)
-
-same-length-24 : tie.Need-same-length-24
-same-length-24 c = omega (arith, (the tie.After-place-above (search)).place-above.kept)
-
 returns-2 : tie.Need-returns-2
 unfolding place_head
 returns-2 c =
@@ -133,8 +127,8 @@ place-head-spec =
     same-length-9
     same-length-10
     same-length-11
-    same-length-12
     returns
+    same-length-12
     same-length-13
     same-length-14
     same-length-15
@@ -145,6 +139,4 @@ place-head-spec =
     same-length-20
     same-length-21
     same-length-22
-    same-length-23
-    same-length-24
     returns-2)

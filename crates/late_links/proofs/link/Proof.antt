@@ -77,7 +77,7 @@ returns c =
     let resolve-parent-ref = let p : tie.After-resolve-parent-ref = search in p.resolve-parent-ref in
     let join = let p : tie.After-join = search in p.join in
     let a = let p : tie.After-word-at = search in (start p).args in
-    steps (tables_of a.hashes.now a.parents.now a.sequences.now a.counts.now a.flags.now a.map.now a.tips.now a.tails.now a.missing.now a.requested.now a.arrivals.now a.connected.now) _ _ _ _ _ word_at.ensures resolve-parent-ref.ensures join.ensures
+    steps (tables_of a.hashes.now a.parents.now a.sequences.now a.counts.now a.flags.now a.tips.now a.tails.now a.missing.now a.requested.now a.arrivals.now a.connected.now) _ _ _ _ _ word_at.ensures resolve-parent-ref.ensures join.ensures
 
 pub link-spec : {M : Type 1} → statement M
 link-spec =

@@ -45,7 +45,7 @@ returns c =
     let l = the tie.After-link (search) in
     let b = the tie.Then1 (search) in
     let a = (start b.before).args in
-    linked (tables_of a.hashes.now a.parents.now a.sequences.now a.counts.now a.flags.now a.map.now a.tips.now a.tails.now a.missing.now a.requested.now a.arrivals.now a.connected.now) _ _ _ _ _ (sym b.before.is-late.ensures ∙ b.if1.taken) l.link.ensures
+    linked (tables_of a.hashes.now a.parents.now a.sequences.now a.counts.now a.flags.now a.tips.now a.tails.now a.missing.now a.requested.now a.arrivals.now a.connected.now) _ _ _ _ _ (sym b.before.is-late.ensures ∙ b.if1.taken) l.link.ensures
 
 same-length-9 : tie.Need-same-length-9
 same-length-9 c = refl
@@ -66,7 +66,7 @@ returns-2 : tie.Need-returns-2
 returns-2 c =
     let b = the tie.Else1 (search) in
     let a = (start b.before).args in
-    left_alone (tables_of a.hashes.now a.parents.now a.sequences.now a.counts.now a.flags.now a.map.now a.tips.now a.tails.now a.missing.now a.requested.now a.arrivals.now a.connected.now) _ _ _ _ (sym b.before.is-late.ensures ∙ b.if1.left)
+    left_alone (tables_of a.hashes.now a.parents.now a.sequences.now a.counts.now a.flags.now a.tips.now a.tails.now a.missing.now a.requested.now a.arrivals.now a.connected.now) _ _ _ _ (sym b.before.is-late.ensures ∙ b.if1.left)
 
 pub link-late-spec : {M : Type 1} → statement M
 link-late-spec =

@@ -12,13 +12,13 @@ use Rattle.late_links.proofs.link_tails.Statement.{statement}
 use Rattle.late_links.proofs.link_tails.Tie as tie
 
 abbrev invariant-loop : tie.invariant-loop
-invariant-loop hashes parents₀ sequences counts₀ flags map tips₀ tails₀ missing₀ requested₀ arrivals₀ connected₀ block sequence hash m k₀ parents counts tips tails missing requested arrivals connected k =
-    let was = tables_of hashes parents₀ sequences counts₀ flags map tips₀ tails₀ missing₀ requested₀ arrivals₀ connected₀ in
-    let t = tables_of hashes parents sequences counts flags map tips tails missing requested arrivals connected in
+invariant-loop hashes parents₀ sequences counts₀ flags tips₀ tails₀ missing₀ requested₀ arrivals₀ connected₀ block sequence hash m k₀ parents counts tips tails missing requested arrivals connected k =
+    let was = tables_of hashes parents₀ sequences counts₀ flags tips₀ tails₀ missing₀ requested₀ arrivals₀ connected₀ in
+    let t = tables_of hashes parents sequences counts flags tips tails missing requested arrivals connected in
     Turned k m (SameLengths t was) (t ≡ in_order (link_late block.0 sequence.0 hash) k was)
 
 abbrev decreases-loop : tie.decreases-loop
-decreases-loop hashes parents₀ sequences counts₀ flags map tips₀ tails₀ missing₀ requested₀ arrivals₀ connected₀ block sequence hash m k₀ parents counts tips tails missing requested arrivals connected k = m - k
+decreases-loop hashes parents₀ sequences counts₀ flags tips₀ tails₀ missing₀ requested₀ arrivals₀ connected₀ block sequence hash m k₀ parents counts tips tails missing requested arrivals connected k = m - k
 
 hash-at-requires : tie.Need-hash-at-requires invariant-loop decreases-loop
 hash-at-requires c κs = tt

@@ -16,13 +16,13 @@ abbrev recomputed_below : (k block : ℕ) (hash previous : List ℕ) → Tables 
 recomputed_below k block hash previous t = with_heads t (in_order (recompute_missed t.blocks block hash previous) k t.heads)
 
 abbrev invariant-loop : tie.invariant-loop
-invariant-loop hashes parents sequences counts flags map tips tails₀ missing₀ requested₀ arrivals connected₀ block previous hash m k₀ tails missing requested connected k =
-    let was = tables_of hashes parents sequences counts flags map tips tails₀ missing₀ requested₀ arrivals connected₀ in
-    let t = tables_of hashes parents sequences counts flags map tips tails missing requested arrivals connected in
+invariant-loop hashes parents sequences counts flags tips tails₀ missing₀ requested₀ arrivals connected₀ block previous hash m k₀ tails missing requested connected k =
+    let was = tables_of hashes parents sequences counts flags tips tails₀ missing₀ requested₀ arrivals connected₀ in
+    let t = tables_of hashes parents sequences counts flags tips tails missing requested arrivals connected in
     Turned k m (SameLengths t was) (t ≡ recomputed_below k block.0 hash previous was)
 
 abbrev decreases-loop : tie.decreases-loop
-decreases-loop hashes parents sequences counts flags map tips tails₀ missing₀ requested₀ arrivals connected₀ block previous hash m k₀ tails missing requested connected k = m - k
+decreases-loop hashes parents sequences counts flags tips tails₀ missing₀ requested₀ arrivals connected₀ block previous hash m k₀ tails missing requested connected k = m - k
 
 hash-at-requires : tie.Need-hash-at-requires invariant-loop decreases-loop
 hash-at-requires c κs = tt

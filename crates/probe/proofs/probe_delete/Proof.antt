@@ -27,9 +27,6 @@ same-length-4 c = omega (arith, (the tie.After-delete (search)).delete.kept)
 same-length-5 : tie.Need-same-length-5
 same-length-5 c = omega (arith, (the tie.After-delete (search)).delete.kept)
 
-same-length-6 : tie.Need-same-length-6
-same-length-6 c = omega (arith, (the tie.After-delete (search)).delete.kept)
-
 returns : tie.Need-returns
 returns c =
     let delete = let p : tie.After-delete = search in p.delete in
@@ -46,5 +43,4 @@ probe-delete-spec =
     same-length-3
     same-length-4
     same-length-5
-    same-length-6
     returns)

@@ -29,9 +29,6 @@ same-length-4 c = search rules
 same-length-5 : tie.Need-same-length-5
 same-length-5 c = search rules
 
-same-length-6 : tie.Need-same-length-6
-same-length-6 c = search rules
-
 returns : tie.Need-returns
 returns c =
     let i : tie.After-insert = search in
@@ -50,5 +47,4 @@ probe-insert-spec =
     same-length-3
     same-length-4
     same-length-5
-    same-length-6
     returns)

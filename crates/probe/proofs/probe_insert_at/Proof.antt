@@ -26,9 +26,6 @@ same-length-4 c = omega (arith, (the tie.After-insert-at (search)).insert-at.kep
 same-length-5 : tie.Need-same-length-5
 same-length-5 c = omega (arith, (the tie.After-insert-at (search)).insert-at.kept)
 
-same-length-6 : tie.Need-same-length-6
-same-length-6 c = omega (arith, (the tie.After-insert-at (search)).insert-at.kept)
-
 returns : tie.Need-returns
 returns c =
     let hash_at = let p : tie.After-hash-at = search in p.hash_at in
@@ -46,5 +43,4 @@ probe-insert-at-spec =
     same-length-3
     same-length-4
     same-length-5
-    same-length-6
     returns)

@@ -101,11 +101,6 @@ same-length-12 c =
     let p : tie.After-name-again = search in
     omega (arith, p.name-again.kept, (to-insert-head p).insert-head.kept)
 
-same-length-13 : tie.Need-same-length-13
-same-length-13 c =
-    let p : tie.After-name-again = search in
-    omega (arith, p.name-again.kept, (to-insert-head p).insert-head.kept)
-
 returns : tie.Need-returns
 unfolding rebuild_at
 returns c q =
@@ -116,21 +111,21 @@ returns c q =
     let if1 = (to-if1 t).if1 in
     let is-full = (to-is-full t).is-full in
     let insert-head = t.insert-head in
-    let tables = tables_of p.hashes.now p.parents.now p.sequences.now p.counts.now p.flags.now p.map.now p.tips.now p.tails.now
+    let tables = tables_of p.hashes.now p.parents.now p.sequences.now p.counts.now p.flags.now p.tips.now p.tails.now
     p.missing.now p.requested.now p.arrivals.now p.connected.now in
     let u = insert-head.ensures in
     let e : (occupied p.sequences.now p.slot.0 && childless p.parents.now p.sequences.now p.slot.0) ≡ true =
     sym (is-end.ensures ∙ named_end p.parents.now p.sequences.now p.named.now p.slot.0 q) ∙ if1.taken in
     (rw e u, named-after tables _ p.slot.0 _ _ p.arrival p.active.0 p.named.now _ _ u is-full.ensures q name-again.ensures)
 
+same-length-13 : tie.Need-same-length-13
+same-length-13 c = refl
+
 same-length-14 : tie.Need-same-length-14
 same-length-14 c = refl
 
 same-length-15 : tie.Need-same-length-15
 same-length-15 c = refl
-
-same-length-16 : tie.Need-same-length-16
-same-length-16 c = refl
 
 returns-2 : tie.Need-returns-2
 unfolding rebuild_at
@@ -162,9 +157,8 @@ rebuild-at-spec =
     same-length-10
     same-length-11
     same-length-12
-    same-length-13
     returns
+    same-length-13
     same-length-14
     same-length-15
-    same-length-16
     returns-2)

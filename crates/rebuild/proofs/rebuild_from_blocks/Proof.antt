@@ -77,11 +77,6 @@ same-length-11 c =
     let p : tie.After-recompute-head-ref-counts = search in
     omega (arith, p.recompute-head-ref-counts.kept, (to-rebuild-heads p).rebuild-heads.kept)
 
-same-length-12 : tie.Need-same-length-12
-same-length-12 c =
-    let p : tie.After-recompute-head-ref-counts = search in
-    omega (arith, p.recompute-head-ref-counts.kept, (to-rebuild-heads p).rebuild-heads.kept)
-
 -- the two steps as one, of any tables
 steps : (t u v : Tables) (counts : List ℕ) (arrival active_head : ℕ)
     → u ≡ rebuild_heads t arrival active_head → counts ≡ recount_all u.blocks.parents u.blocks.sequences u.blocks.counts
@@ -112,5 +107,4 @@ rebuild-from-blocks-spec =
     same-length-9
     same-length-10
     same-length-11
-    same-length-12
     returns)

@@ -30,18 +30,18 @@ record Made (t made : Tables) (named : List ℕ) (room : ℕ) : Type 0 where
   bytes : named ≡ named_parents t.blocks.parents t.blocks.sequences room
 
 abbrev invariant-loop : tie.invariant-loop
-invariant-loop hashes₀ parents₀ sequences₀ counts₀ flags₀ map₀ tips₀ tails₀ missing₀ requested₀ arrivals₀ connected₀ named₀ arrival active n i₀
-    hashes parents sequences counts flags map tips tails missing requested arrivals connected named i =
-    let was = tables_of hashes₀ parents₀ sequences₀ counts₀ flags₀ map₀ tips₀ tails₀ missing₀ requested₀ arrivals₀ connected₀ in
-    let t = tables_of hashes parents sequences counts flags map tips tails missing requested arrivals connected in
+invariant-loop hashes₀ parents₀ sequences₀ counts₀ flags₀ tips₀ tails₀ missing₀ requested₀ arrivals₀ connected₀ named₀ arrival active n i₀
+    hashes parents sequences counts flags tips tails missing requested arrivals connected named i =
+    let was = tables_of hashes₀ parents₀ sequences₀ counts₀ flags₀ tips₀ tails₀ missing₀ requested₀ arrivals₀ connected₀ in
+    let t = tables_of hashes parents sequences counts flags tips tails missing requested arrivals connected in
     Turned i n
-    ((length named ≡ length named₀) × (((length hashes ≡ length hashes₀) × (length map ≡ length map₀)) × ((length parents ≡ length parents₀) × ((length sequences ≡ length sequences₀) × ((length counts ≡ length counts₀) × ((length flags ≡ length flags₀) × ((length tips ≡ length tips₀) × ((length tails ≡ length tails₀) × ((length missing ≡ length missing₀) × ((length requested ≡ length requested₀) × ((length arrivals ≡ length arrivals₀) × (length connected ≡ length connected₀))))))))))))
+    ((length named ≡ length named₀) × ((length hashes ≡ length hashes₀) × ((length parents ≡ length parents₀) × ((length sequences ≡ length sequences₀) × ((length counts ≡ length counts₀) × ((length flags ≡ length flags₀) × ((length tips ≡ length tips₀) × ((length tails ≡ length tails₀) × ((length missing ≡ length missing₀) × ((length requested ≡ length requested₀) × ((length arrivals ≡ length arrivals₀) × (length connected ≡ length connected₀))))))))))))
     (Made t (in_order (rebuild_at arrival active.0) i was) named (length named₀))
 
 abbrev decreases-loop : tie.decreases-loop
-decreases-loop hashes₀ parents₀ sequences₀ counts₀ flags₀ map₀ tips₀ tails₀ missing₀ requested₀ arrivals₀ connected₀ named₀ arrival active n i₀
+decreases-loop hashes₀ parents₀ sequences₀ counts₀ flags₀ tips₀ tails₀ missing₀ requested₀ arrivals₀ connected₀ named₀ arrival active n i₀
     hashes
-    parents sequences counts flags map tips tails missing requested arrivals connected named i =
+    parents sequences counts flags tips tails missing requested arrivals connected named i =
     n - i
 
 abbrev to_slots : tie.After-rebuild-at invariant-loop decreases-loop → tie.After-slots invariant-loop decreases-loop
@@ -133,9 +133,6 @@ same-length-11 c = omega (arith, c.before.loop.invariant.lengths)
 same-length-12 : tie.Need-same-length-12 invariant-loop decreases-loop
 same-length-12 c = omega (arith, c.before.loop.invariant.lengths)
 
-same-length-13 : tie.Need-same-length-13 invariant-loop decreases-loop
-same-length-13 c = omega (arith, c.before.loop.invariant.lengths)
-
 returns : tie.Need-returns invariant-loop decreases-loop
 returns c =
     let l = c.before.loop in
@@ -168,5 +165,4 @@ rebuild-heads-spec =
     same-length-10
     same-length-11
     same-length-12
-    same-length-13
     returns)

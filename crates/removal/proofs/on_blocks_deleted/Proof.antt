@@ -64,7 +64,7 @@ returns c =
     let heir = let p : tie.After-heir = search in p.heir in
     let update-heads = let p : tie.After-update-heads = search in p.update-heads in
     let recompute-head-ref-counts = let p : tie.After-recompute-head-ref-counts = search in p.recompute-head-ref-counts in
-    let t = tables_of a.hashes.now a.parents.now a.sequences.now a.counts.now a.flags.now a.map.now a.tips.now a.tails.now
+    let t = tables_of a.hashes.now a.parents.now a.sequences.now a.counts.now a.flags.now a.tips.now a.tails.now
     a.missing.now a.requested.now a.arrivals.now a.connected.now in
     let e = update-heads.ensures
     ∙ ap (λ m. heads_left a.parents.now a.sequences.now a.flags.now a.deleted.now m a.reattach.0 t.heads) heir.ensures in

@@ -95,9 +95,6 @@ same-length-10 c = refl
 same-length-11 : tie.Need-same-length-11
 same-length-11 c = refl
 
-same-length-12 : tie.Need-same-length-12
-same-length-12 c = refl
-
 returns : tie.Need-returns
 returns c =
     let p = let q : tie.After-permit = search in (to_start q).args in
@@ -106,7 +103,7 @@ returns c =
     let u = let p : tie.After-mark-subtree = search in p.mark-subtree in
     let e = let p : tie.After-at-most = search in p.at_most in
     let any-active = let p : tie.After-any-active = search in p.any-active in
-    let tables = tables_of p.hashes.now p.parents.now p.sequences.now p.counts.now p.flags.now p.map.now p.tips.now p.tails.now
+    let tables = tables_of p.hashes.now p.parents.now p.sequences.now p.counts.now p.flags.now p.tips.now p.tails.now
     p.missing.now p.requested.now p.arrivals.now p.connected.now in
     let h = sym permit.ensures ∙ ap outcome_said enum-told-call.given.1 in
     let d = marked-front tables p.root.0 u.result e.result _ _ (remove-begins (state_of tables 0) p.root.0 h).0
@@ -124,6 +121,9 @@ part-remove-listed-end c = search rules
 
 remove-listed-requires : tie.Need-remove-listed-requires
 remove-listed-requires c κs = tt
+
+same-length-12 : tie.Need-same-length-12
+same-length-12 c = refl
 
 same-length-13 : tie.Need-same-length-13
 same-length-13 c = refl
@@ -155,21 +155,25 @@ same-length-21 c = refl
 same-length-22 : tie.Need-same-length-22
 same-length-22 c = refl
 
-same-length-23 : tie.Need-same-length-23
-same-length-23 c = refl
-
-same-length-24 : tie.Need-same-length-24
-same-length-24 c = refl
-
 returns-2 : tie.Need-returns-2
 returns-2 c =
     let p = let q : tie.Start = search in q.args in
     let permit = let p : tie.After-permit = search in p.permit in
     let why = let p : tie.After-why = search in p.why in
-    let tables = tables_of p.hashes.now p.parents.now p.sequences.now p.counts.now p.flags.now p.map.now p.tips.now p.tails.now
+    let tables = tables_of p.hashes.now p.parents.now p.sequences.now p.counts.now p.flags.now p.tips.now p.tails.now
     p.missing.now p.requested.now p.arrivals.now p.connected.now in
     let g = ap outcome_said why.given.1 in
     λ a. remove-refused (state_of tables a) p.root.0 _ (sym permit.ensures ∙ g)
+
+same-length-23 : tie.Need-same-length-23
+same-length-23 c =
+    let p : tie.After-remove-listed = search in
+    omega (arith, p.remove-listed.kept, (to-mark-subtree p).mark-subtree.kept)
+
+same-length-24 : tie.Need-same-length-24
+same-length-24 c =
+    let p : tie.After-remove-listed = search in
+    omega (arith, p.remove-listed.kept, (to-mark-subtree p).mark-subtree.kept)
 
 same-length-25 : tie.Need-same-length-25
 same-length-25 c =
@@ -216,21 +220,6 @@ same-length-33 c =
     let p : tie.After-remove-listed = search in
     omega (arith, p.remove-listed.kept, (to-mark-subtree p).mark-subtree.kept)
 
-same-length-34 : tie.Need-same-length-34
-same-length-34 c =
-    let p : tie.After-remove-listed = search in
-    omega (arith, p.remove-listed.kept, (to-mark-subtree p).mark-subtree.kept)
-
-same-length-35 : tie.Need-same-length-35
-same-length-35 c =
-    let p : tie.After-remove-listed = search in
-    omega (arith, p.remove-listed.kept, (to-mark-subtree p).mark-subtree.kept)
-
-same-length-36 : tie.Need-same-length-36
-same-length-36 c =
-    let p : tie.After-remove-listed = search in
-    omega (arith, p.remove-listed.kept, (to-mark-subtree p).mark-subtree.kept)
-
 returns-3 : tie.Need-returns-3
 returns-3 c =
     let t : tie.After-remove-listed = search in
@@ -242,7 +231,7 @@ returns-3 c =
     let any-active = (to-any-active t).any-active in
     let if1 = (to-if1 t).if1 in
     let remove-listed = t.remove-listed in
-    let tables = tables_of p.hashes.now p.parents.now p.sequences.now p.counts.now p.flags.now p.map.now p.tips.now p.tails.now
+    let tables = tables_of p.hashes.now p.parents.now p.sequences.now p.counts.now p.flags.now p.tips.now p.tails.now
     p.missing.now p.requested.now p.arrivals.now p.connected.now in
     let h = sym permit.ensures ∙ ap outcome_said enum-told-call.given.1 in
     let d = marked-front tables p.root.0 u.result e.result _ _ (remove-begins (state_of tables 0) p.root.0 h).0
@@ -275,12 +264,12 @@ remove-spec =
     same-length-9
     same-length-10
     same-length-11
-    same-length-12
     returns
     sub-remove-listed
     part-remove-listed-start
     part-remove-listed-end
     remove-listed-requires
+    same-length-12
     same-length-13
     same-length-14
     same-length-15
@@ -291,9 +280,9 @@ remove-spec =
     same-length-20
     same-length-21
     same-length-22
+    returns-2
     same-length-23
     same-length-24
-    returns-2
     same-length-25
     same-length-26
     same-length-27
@@ -303,7 +292,4 @@ remove-spec =
     same-length-31
     same-length-32
     same-length-33
-    same-length-34
-    same-length-35
-    same-length-36
     returns-3)

@@ -78,11 +78,6 @@ same-length-11 c =
     let p : tie.After-on-blocks-deleted = search in
     omega (arith, p.on-blocks-deleted.kept, (to-free-all p).free_all.kept)
 
-same-length-12 : tie.Need-same-length-12
-same-length-12 c =
-    let p : tie.After-on-blocks-deleted = search in
-    omega (arith, p.on-blocks-deleted.kept, (to-free-all p).free_all.kept)
-
 -- the three steps as one, of any tables
 steps : (t v : Tables) (b : Blocks) (deleted : List ℕ) (parent up : ℕ)
     → up ≡ parent → b ≡ free_all deleted t.blocks → v ≡ blocks_deleted (with_blocks t b) deleted up
@@ -113,5 +108,4 @@ remove-listed-spec =
     same-length-9
     same-length-10
     same-length-11
-    same-length-12
     returns)

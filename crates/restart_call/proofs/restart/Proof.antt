@@ -53,9 +53,6 @@ same-length-10 c = refl
 same-length-11 : tie.Need-same-length-11
 same-length-11 c = refl
 
-same-length-12 : tie.Need-same-length-12
-same-length-12 c = refl
-
 returns : tie.Need-returns
 returns c =
     let b = the tie.Then1 (search) in
@@ -70,6 +67,9 @@ recompute-head-ref-counts-requires c κs = tt
 
 rebuild-from-blocks-requires : tie.Need-rebuild-from-blocks-requires
 rebuild-from-blocks-requires c κs = tt
+
+same-length-12 : tie.Need-same-length-12
+same-length-12 c = let r = the tie.After-rebuild-from-blocks (search) in let k = counted r in omega (arith, r.rebuild-from-blocks.kept, k.recompute-head-ref-counts.kept, (emptied k).empty-heads.kept)
 
 same-length-13 : tie.Need-same-length-13
 same-length-13 c = let r = the tie.After-rebuild-from-blocks (search) in let k = counted r in omega (arith, r.rebuild-from-blocks.kept, k.recompute-head-ref-counts.kept, (emptied k).empty-heads.kept)
@@ -101,12 +101,6 @@ same-length-21 c = let r = the tie.After-rebuild-from-blocks (search) in let k =
 same-length-22 : tie.Need-same-length-22
 same-length-22 c = let r = the tie.After-rebuild-from-blocks (search) in let k = counted r in omega (arith, r.rebuild-from-blocks.kept, k.recompute-head-ref-counts.kept, (emptied k).empty-heads.kept)
 
-same-length-23 : tie.Need-same-length-23
-same-length-23 c = let r = the tie.After-rebuild-from-blocks (search) in let k = counted r in omega (arith, r.rebuild-from-blocks.kept, k.recompute-head-ref-counts.kept, (emptied k).empty-heads.kept)
-
-same-length-24 : tie.Need-same-length-24
-same-length-24 c = let r = the tie.After-rebuild-from-blocks (search) in let k = counted r in omega (arith, r.rebuild-from-blocks.kept, k.recompute-head-ref-counts.kept, (emptied k).empty-heads.kept)
-
 returns-2 : tie.Need-returns-2
 returns-2 c =
     let r = the tie.After-rebuild-from-blocks (search) in
@@ -132,11 +126,11 @@ restart-spec =
     same-length-9
     same-length-10
     same-length-11
-    same-length-12
     returns
     empty-heads-requires
     recompute-head-ref-counts-requires
     rebuild-from-blocks-requires
+    same-length-12
     same-length-13
     same-length-14
     same-length-15
@@ -147,6 +141,4 @@ restart-spec =
     same-length-20
     same-length-21
     same-length-22
-    same-length-23
-    same-length-24
     returns-2)

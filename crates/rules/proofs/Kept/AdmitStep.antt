@@ -1,17 +1,17 @@
 -- Admission as a call of a list.
 use mathlib.Core.Path.{◌≡◌, refl, sym, ap, ◌∙◌}
 use mathlib.Core.Logic.{◌≢◌, ◌⊎◌, inl, inr}
-use mathlib.Core.Bool.{true, ◌&&◌}
+use mathlib.Core.Bool.{true, not, ◌&&◌}
 use mathlib.Core.List.{List}
 use mathlib.Core.Option.{none, some}
 use Prim.Native.Nat.{ℕ, suc}
 use native.Mathlib.Omega.{arith}
 use lib.Dec.{eqb}
-use borrow.Author.Tests.{eqb-true, eqb-false, eq-eqb, ne_eqb}
+use borrow.Author.Tests.{eqb-true, eqb-false, eq-eqb, ne_eqb, not-true}
 use Rattle.rules.specs.Common.{is_at}
 use Rattle.rules.specs.Hashes.{same_hash}
 use Rattle.rules.specs.Records.{NONE, Blocks, Tables, slots_of}
-use Rattle.rules.specs.BlockTable.{is_block, find, find_parent}
+use Rattle.rules.specs.BlockTable.{is_block, find, next_free, find_parent}
 use Rattle.rules.specs.Answers.{slot}
 use Rattle.rules.specs.Calls.{State, Call, admit_call, keeping, slot_or_none, admit_at, takes_slot, admit}
 use Rattle.rules.specs.Promises.{sequence, Occupied, Name, name, slot_returned, Sound}
@@ -19,7 +19,6 @@ use Rattle.rules.proofs.Splits.{split, same?, option?, not_some, and-true, true-
 use Rattle.rules.proofs.Search.{lowest-holds, lowest-misses}
 use Rattle.rules.proofs.Hashes.{same_refl}
 use Rattle.rules.proofs.Refusals.{Free, admit?}
-use Rattle.rules.proofs.Mapped.{free-slot, free-inside}
 use Rattle.rules.proofs.Kept.Table.{seq_of, hash_of, is_occupied, Shape, occupied-lt, ne-occupied, kids-slots}
 use Rattle.rules.proofs.Kept.Frame.{Good, All}
 use Rattle.rules.proofs.Kept.Insert.{Fits}
@@ -71,11 +70,12 @@ module _ (s : State) (q : ℕ) (hash previous : List ℕ) (arrival x : ℕ) (z :
   sh = g.frame.counts.shape
 
   pub fits : Fits t x q hash (slot_or_none (find_parent t.hashes t.sequences q previous))
+  unfolding next_free
   fits =
-      let b = free-inside t.sequences x (free-slot t.sequences t.map x k.next).0 in
+      let b = lowest-holds (λ i. not (is_occupied t i)) (slots_of t.sequences) x k.next in
       record {
         inside = rw (kids-slots t sh) at b.0;
-        free = b.1;
+        free = not-true (is_occupied t x) b.1;
         seq_ok = k.real;
         len = k.len;
         parent_ok = parent-fits t q previous;

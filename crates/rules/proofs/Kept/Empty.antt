@@ -5,7 +5,6 @@ use Prim.Native.Nat.{ℕ, ◌+◌, ◌*◌, ◌≤◌}
 use native.Mathlib.Omega.{arith}
 use lib.ListN.{get_or, replicate, length-replicate, get_or-replicate, get_or-eq_default}
 use Rattle.rules.specs.Hashes.{hash_at, hash_length, zero_hash}
-use Rattle.rules.specs.Map.{words_for}
 use Rattle.rules.specs.Records.{NONE, empty_block, empty_head, block_at, empty_blocks, empty_heads, head_at}
 use Rattle.rules.specs.Calls.{max_blocks, min_heads, max_heads}
 use Rattle.rules.proofs.Splits.{less?}
@@ -15,7 +14,7 @@ use Rattle.rules.proofs.Kept.Table.{is_occupied, Shape, occupied-ne}
 use Rattle.rules.proofs.Kept.Seats.{room, in_use, Room, use-ne}
 
 -- every cell of a list of defaults is the default
-pub same-cells : (n i d : ℕ) → get_or (replicate n d) i d ≡ d
+same-cells : (n i d : ℕ) → get_or (replicate n d) i d ≡ d
 same-cells n i d = less? i n
     (λ l. get_or-replicate n i d d l)
     (λ l. get_or-eq_default (replicate n d) d (let e = length-replicate n d in omega arith))
@@ -44,7 +43,6 @@ module _ (n : ℕ) where
         counts = z ∙ sym e;
         flagged = z ∙ sym e;
         hashed = length-replicate {A = ℕ} (n * hash_length) 0 ∙ rw e refl;
-        mapped = length-replicate {A = ℕ} (words_for n) 0 ∙ rw e refl;
       }
 
 module _ (m : ℕ) where

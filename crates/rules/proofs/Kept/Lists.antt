@@ -8,9 +8,8 @@ use native.Mathlib.Omega.{arith}
 use lib.ListN.{length}
 use Rattle.rules.specs.Common.{if◌then◌else◌, is_at}
 use Rattle.rules.specs.Calls.{State, Call, admit_call, promote_call, remove_call, timer_call, restart_call, step, run}
-use Rattle.rules.specs.Promises.{Active, MapTrue, Name, name, Made, made, Accepted, Promoted, accepts, later, slot_returned, name_given, last_admitted, Sound, Recorded, Promise}
+use Rattle.rules.specs.Promises.{Active, Name, name, Made, made, Accepted, Promoted, accepts, later, slot_returned, name_given, last_admitted, Sound, Recorded, Promise}
 use Rattle.rules.proofs.Kept.Went.{Went}
-use Rattle.rules.proofs.Mapped.{map-kept}
 use Rattle.rules.proofs.Kept.Steps.{went-remove, went-restart, went-timer}
 use Rattle.rules.proofs.Kept.PromoteStep.{went-promote}
 use Rattle.rules.proofs.Kept.AdmitStep.{went-admit}
@@ -117,14 +116,9 @@ unfolding run
 run-append [] more s = refl
 run-append (call ∷ calls) more s = run-append calls more (step s call).after
 
-list-maps : (calls : List Call) (s : State) → MapTrue s → MapTrue (run s calls)
-unfolding run
-list-maps [] s m = m
-list-maps (call ∷ calls) s m = list-maps calls (step s call).after ((map-kept s m).by_step call)
-
 -- from any state of which the promises hold
-pub list-promise : (log : List Made) (s : State) → Sound s → Recorded log s → MapTrue s → (calls : List Call) → Promise log s calls
-list-promise log s z r m calls =
+pub list-promise : (log : List Made) (s : State) → Sound s → Recorded log s → (calls : List Call) → Promise log s calls
+list-promise log s z r calls =
     let k = list-kept calls log s z r in
     record {
       sound = k.0;
@@ -133,6 +127,5 @@ list-promise log s z r m calls =
           let q = list-stays more (run s calls) k.0 i ((k.1.promoted i).1 p) in
           let v = list-sound more (run s calls) k.0 in
           rw (run-append calls more s) ((v.tree.line i q.0).0, q.0, q.1);
-      map = list-maps calls s m;
       victims = λ call. finds-victims (run s calls) k.0 call;
     }

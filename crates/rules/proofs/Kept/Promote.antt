@@ -24,7 +24,7 @@ module _ (t : Blocks) (i : ℕ) (s : Shape t) (o : is_occupied t i ≡ true) whe
   pub lit-but : But t (activate t i) i
   unfolding activate set_status set_on_active_chain set_occupied block_at
   lit-but = rw o (record {
-    shapes = λ s. record { some = s.some; small = s.small; parents = s.parents; counts = s.counts; flagged = simp length-set s.flagged; hashed = s.hashed; mapped = s.mapped };
+    shapes = λ s. record { some = s.some; small = s.small; parents = s.parents; counts = s.counts; flagged = simp length-set s.flagged; hashed = s.hashed };
     sizes = refl;
     rest = λ j ne. rw (set-set t.flags i _ _, get_or-set_other t.flags i j _ 0 ne);
   })

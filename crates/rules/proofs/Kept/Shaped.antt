@@ -8,7 +8,6 @@ use lib.Dec.{eqb, leb}
 use lib.ListN.{length}
 use borrow.Author.Tests.{eqb-true, eq-eqb, leb-true, le-leb}
 use Rattle.rules.specs.Hashes.{hash_length}
-use Rattle.rules.specs.Map.{words_for}
 use Rattle.rules.specs.Records.{Tables, blocks_fit, heads_fit}
 use Rattle.rules.specs.Calls.{shaped, blocks_in, heads_in, max_blocks, min_heads, max_heads}
 use Rattle.rules.proofs.Splits.{and-true}
@@ -37,7 +36,6 @@ module _ (t : Tables) where
         eq-eqb (length b.sequences) n (sym e),
         eq-eqb (length b.counts) n (omega (arith, s.counts)),
         eq-eqb (length b.flags) n (omega (arith, s.flagged)),
-        eq-eqb (length b.map) (words_for n) (omega (arith, s.mapped)),
         eq-eqb (length h.tails) m r.tailed,
         eq-eqb (length h.missing) (m * hash_length) r.missed,
         eq-eqb (length h.requested) m r.asked,
@@ -58,8 +56,7 @@ module _ (t : Tables) where
       let a3 = and-true (few && leb min_heads m) (leb m max_heads) a2.0 in
       let a4 = and-true few (leb min_heads m) a3.0 in
       let a5 = and-true (leb 1 n) (leb n max_blocks) a4.0 in
-      let b0 = and-true (fits && eqb (length b.counts) n && eqb (length b.flags) n) (eqb (length b.map) (words_for n)) a2.1 in
-      let b1 = and-true (fits && eqb (length b.counts) n) (eqb (length b.flags) n) b0.0 in
+      let b1 = and-true (fits && eqb (length b.counts) n) (eqb (length b.flags) n) a2.1 in
       let b2 = and-true fits (eqb (length b.counts) n) b1.0 in
       let b3 = and-true (eqb (length b.hashes) (n * hash_length)) (eqb (length b.sequences) n) b2.0 in
       let c1 = and-true (heads && eqb (length h.requested) m && eqb (length h.arrivals) m) (eqb (length h.connected) m) a1.1 in
@@ -69,8 +66,7 @@ module _ (t : Tables) where
       let q = eqb-true (length b.sequences) n b3.1 in
       let one = leb-true 1 n a5.0 in
       let many = leb-true n max_blocks a5.1 in
-      let w = eqb-true (length b.hashes) (n * hash_length) b3.0 in
-      let o = eqb-true (length b.map) (words_for n) b0.1 in (
+      let w = eqb-true (length b.hashes) (n * hash_length) b3.0 in (
         record {
           some = omega arith;
           small = omega arith;
@@ -78,7 +74,6 @@ module _ (t : Tables) where
           counts = eqb-true (length b.counts) n b2.1 ∙ sym q;
           flagged = eqb-true (length b.flags) n b1.1 ∙ sym q;
           hashed = omega arith;
-          mapped = omega arith;
         },
         record {
           two = leb-true min_heads m a4.1;

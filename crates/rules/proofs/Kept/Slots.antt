@@ -9,7 +9,6 @@ use lib.ListN.{length, length-set}
 use lib.Seq.{get_or-set_same, get_or-set_other}
 use borrow.Author.Tests.{eq-eqb, ne_eqb}
 use Rattle.rules.specs.Hashes.{hash_length}
-use Rattle.rules.specs.Map.{put_bit}
 use Rattle.rules.specs.Records.{NONE, Blocks, occupied, active, empty_block, block_at, put_block, erase}
 use Rattle.rules.specs.Promises.{is_child, children_of}
 use Rattle.rules.specs.declared.Block.{Block}
@@ -89,7 +88,7 @@ module _ (t u : Blocks) (i : ℕ) (b : But t u i) where
 
 module _ (t : Blocks) (i : ℕ) (b : Block) (len : length b.hash ≡ hash_length) where
   pub put-but : But t (put_block t i b) i
-  unfolding put_block put_bit block_at
+  unfolding put_block block_at
   put-but = record {
     shapes = λ s. record {
       some = simp length-set s.some;
@@ -98,7 +97,6 @@ module _ (t : Blocks) (i : ℕ) (b : Block) (len : length b.hash ≡ hash_length
       counts = simp length-set s.counts;
       flagged = simp length-set s.flagged;
       hashed = rw (put-hash-length t.hashes b.hash i len) (simp length-set s.hashed);
-      mapped = simp length-set s.mapped;
     };
     sizes = length-set t.sequences i b.sequence.0;
     rest = λ j ne. rw (
@@ -146,7 +144,7 @@ module _ (t : Blocks) (i c : ℕ) where
   pub count-but : But t (set_count t i c) i
   unfolding block_at
   count-but = record {
-    shapes = λ s. record { some = s.some; small = s.small; parents = s.parents; counts = simp length-set s.counts; flagged = s.flagged; hashed = s.hashed; mapped = s.mapped };
+    shapes = λ s. record { some = s.some; small = s.small; parents = s.parents; counts = simp length-set s.counts; flagged = s.flagged; hashed = s.hashed };
     sizes = refl;
     rest = λ j ne. rw (get_or-set_other t.counts i j c 0 ne);
   }
@@ -161,7 +159,7 @@ module _ (t : Blocks) (i c : ℕ) where
   pub parent-but : But t (set_parent t i c) i
   unfolding block_at
   parent-but = record {
-    shapes = λ s. record { some = s.some; small = s.small; parents = simp length-set s.parents; counts = s.counts; flagged = s.flagged; hashed = s.hashed; mapped = s.mapped };
+    shapes = λ s. record { some = s.some; small = s.small; parents = simp length-set s.parents; counts = s.counts; flagged = s.flagged; hashed = s.hashed };
     sizes = refl;
     rest = λ j ne. rw (get_or-set_other t.parents i j c NONE ne);
   }

@@ -138,7 +138,6 @@ module _ (t : Blocks) (s : Shape t) where
     counts = tally-length t.parents t.sequences (slots_of t.sequences) t.counts ∙ s.counts;
     flagged = s.flagged;
     hashed = s.hashed;
-    mapped = s.mapped;
   }
 
   pub recounted-voids : Voids t → Voids (recounted t)

@@ -9,7 +9,6 @@ use lib.Dec.{eqb}
 use lib.ListN.{length, set, get_or-eq_default}
 use borrow.Author.Tests.{eqb-true, eqb-false, eq-eqb, ne_eqb, not-true, not-false}
 use Rattle.rules.specs.Hashes.{hash_at, hash_length}
-use Rattle.rules.specs.Map.{words_for}
 use Rattle.rules.specs.Records.{NONE, Blocks, sequence_at, parent_at, count_at, occupied, active, slots_of, with_counts, with_parents}
 use Rattle.rules.specs.Promises.{is_child, children_of}
 use Rattle.rules.specs.Calls.{max_blocks}
@@ -52,7 +51,6 @@ pub record Shape (t : Blocks) : Type 0 where
   pub counts : length t.counts ≡ size t
   pub flagged : length t.flags ≡ size t
   pub hashed : length t.hashes ≡ size t * hash_length
-  pub mapped : length t.map ≡ words_for (size t)
 
 -- the parent of an occupied block is NONE, or an occupied slot one lower in sequence
 abbrev pub Linked : Blocks → Type 0

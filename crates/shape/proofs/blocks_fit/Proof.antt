@@ -1,5 +1,4 @@
 -- Each length in turn.
-use borrow.Author.Rules.{rules}
 use native.Mathlib.Omega.{arith}
 use Prim.Native.Nat.{◌*◌}
 use borrow.Author.Tests.{eq-eqb, ne_eqb}
@@ -59,9 +58,6 @@ returns-5 c =
       ne_eqb _ _ c.if5.true,
     )
 
-add-if6 : tie.Need-overflow-add-if6
-add-if6 c = search rules
-
 returns-6 : tie.Need-returns-6
 unfolding blocks_fit
 returns-6 c =
@@ -70,31 +66,12 @@ returns-6 c =
     let if2 = let p : tie.Else2 = search in p.if2 in
     let if3 = let p : tie.Else3 = search in p.if3 in
     let if4 = let p : tie.Else4 = search in p.if4 in
-    let if5 = let p : tie.Else5 = search in p.if5 in
     rw (
       eq-eqb (length p.hashes.now) ((length p.parents.now) * 32) (omega (arith, if1.left, if2.left)),
       eq-eqb _ _ if3.left,
       eq-eqb _ _ if4.left,
-      eq-eqb _ _ if5.left,
-      ne_eqb _ _ c.if6.true,
-    )
-
-returns-7 : tie.Need-returns-7
-unfolding blocks_fit
-returns-7 c =
-    let p = let q : tie.Start = search in q.args in
-    let if1 = let p : tie.Else1 = search in p.if1 in
-    let if2 = let p : tie.Else2 = search in p.if2 in
-    let if3 = let p : tie.Else3 = search in p.if3 in
-    let if4 = let p : tie.Else4 = search in p.if4 in
-    let if5 = let p : tie.Else5 = search in p.if5 in
-    rw (
-      eq-eqb (length p.hashes.now) ((length p.parents.now) * 32) (omega (arith, if1.left, if2.left)),
-      eq-eqb _ _ if3.left,
-      eq-eqb _ _ if4.left,
-      eq-eqb _ _ if5.left,
-      eq-eqb _ _ c.if6.false,
+      eq-eqb _ _ c.if5.false,
     )
 
 pub blocks-fit-spec : {M : Type 1} → statement M
-blocks-fit-spec = tie.close (tie.spec returns returns-2 returns-3 returns-4 returns-5 add-if6 returns-6 returns-7)
+blocks-fit-spec = tie.close (tie.spec returns returns-2 returns-3 returns-4 returns-5 returns-6)

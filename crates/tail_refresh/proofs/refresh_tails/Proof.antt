@@ -15,13 +15,13 @@ abbrev refreshed_below : ℕ → Tables → Tables
 refreshed_below k t = with_heads t (in_order (refresh_outgrown t.blocks) k t.heads)
 
 abbrev invariant-loop : tie.invariant-loop
-invariant-loop hashes parents sequences counts flags map tips tails₀ missing₀ requested₀ arrivals connected₀ m k₀ tails missing requested connected k =
-    let was = tables_of hashes parents sequences counts flags map tips tails₀ missing₀ requested₀ arrivals connected₀ in
-    let t = tables_of hashes parents sequences counts flags map tips tails missing requested arrivals connected in
+invariant-loop hashes parents sequences counts flags tips tails₀ missing₀ requested₀ arrivals connected₀ m k₀ tails missing requested connected k =
+    let was = tables_of hashes parents sequences counts flags tips tails₀ missing₀ requested₀ arrivals connected₀ in
+    let t = tables_of hashes parents sequences counts flags tips tails missing requested arrivals connected in
     Turned k m (SameLengths t was) (t ≡ refreshed_below k was)
 
 abbrev decreases-loop : tie.decreases-loop
-decreases-loop hashes parents sequences counts flags map tips tails₀ missing₀ requested₀ arrivals connected₀ m k₀ tails missing requested connected k = m - k
+decreases-loop hashes parents sequences counts flags tips tails₀ missing₀ requested₀ arrivals connected₀ m k₀ tails missing requested connected k = m - k
 
 slots-requires : tie.Need-slots-requires invariant-loop decreases-loop
 slots-requires c κs = tt

@@ -25,16 +25,13 @@ under c = search
 abbrev screen : tie.After-tell-screen → tie.After-enum-told2
 screen c = search
 
-abbrev total : tie.After-tell-total → tie.After-enum-told3
-total c = search
-
 abbrev timer : tie.After-tell-timer → tie.After-line5
 timer c = search
 
 abbrev restart : tie.After-tell-restart → tie.After-line6
 restart c = search
 
-abbrev unread : tie.After-tell-unread → tie.After-enum-told4
+abbrev unread : tie.After-tell-unread → tie.After-enum-told3
 unread c = search
 
 enum_told : tie.Need-enum-told
@@ -73,12 +70,6 @@ enum-told-2 c = search rules
 tell-screen-requires : tie.Need-tell-screen-requires
 tell-screen-requires c κs = tt
 
-enum-told-3 : tie.Need-enum-told-3
-enum-told-3 c = search rules
-
-tell-total-requires : tie.Need-tell-total-requires
-tell-total-requires c κs = tt
-
 enum-known-line-5 : tie.Need-enum-known-line-5
 enum-known-line-5 c = search rules
 
@@ -91,8 +82,8 @@ enum-known-line-6 c = search rules
 tell-restart-requires : tie.Need-tell-restart-requires
 tell-restart-requires c κs = tt
 
-enum-told-4 : tie.Need-enum-told-4
-enum-told-4 c = search rules
+enum-told-3 : tie.Need-enum-told-3
+enum-told-3 c = search rules
 
 tell-unread-requires : tie.Need-tell-unread-requires
 tell-unread-requires c κs = tt
@@ -133,11 +124,11 @@ same-length-11 c = let t = the tie.After-tell-fresh (search) in omega (arith, t.
 same-length-12 : tie.Need-same-length-12
 same-length-12 c = let t = the tie.After-tell-fresh (search) in omega (arith, t.tell-fresh.kept)
 
-same-length-13 : tie.Need-same-length-13
-same-length-13 c = let t = the tie.After-tell-fresh (search) in omega (arith, t.tell-fresh.kept)
-
 returns : tie.Need-returns
 returns c = let t = the tie.After-tell-fresh (search) in tells-of (fresh t).enum_told.given.1 (t.tell-fresh.ensures _ _)
+
+same-length-13 : tie.Need-same-length-13
+same-length-13 c = let t = the tie.After-tell-admit (search) in omega (arith, t.tell-admit.kept)
 
 same-length-14 : tie.Need-same-length-14
 same-length-14 c = let t = the tie.After-tell-admit (search) in omega (arith, t.tell-admit.kept)
@@ -172,14 +163,14 @@ same-length-23 c = let t = the tie.After-tell-admit (search) in omega (arith, t.
 same-length-24 : tie.Need-same-length-24
 same-length-24 c = let t = the tie.After-tell-admit (search) in omega (arith, t.tell-admit.kept)
 
-same-length-25 : tie.Need-same-length-25
-same-length-25 c = let t = the tie.After-tell-admit (search) in omega (arith, t.tell-admit.kept)
-
-same-length-26 : tie.Need-same-length-26
-same-length-26 c = let t = the tie.After-tell-admit (search) in omega (arith, t.tell-admit.kept)
-
 returns-2 : tie.Need-returns-2
 returns-2 c = let t = the tie.After-tell-admit (search) in tells-of (admit t).line.given.1 t.tell-admit.ensures
+
+same-length-25 : tie.Need-same-length-25
+same-length-25 c = let t = the tie.After-tell-promote (search) in omega (arith, t.tell-promote.kept)
+
+same-length-26 : tie.Need-same-length-26
+same-length-26 c = let t = the tie.After-tell-promote (search) in omega (arith, t.tell-promote.kept)
 
 same-length-27 : tie.Need-same-length-27
 same-length-27 c = let t = the tie.After-tell-promote (search) in omega (arith, t.tell-promote.kept)
@@ -211,17 +202,17 @@ same-length-35 c = let t = the tie.After-tell-promote (search) in omega (arith, 
 same-length-36 : tie.Need-same-length-36
 same-length-36 c = let t = the tie.After-tell-promote (search) in omega (arith, t.tell-promote.kept)
 
-same-length-37 : tie.Need-same-length-37
-same-length-37 c = let t = the tie.After-tell-promote (search) in omega (arith, t.tell-promote.kept)
-
-same-length-38 : tie.Need-same-length-38
-same-length-38 c = let t = the tie.After-tell-promote (search) in omega (arith, t.tell-promote.kept)
-
-same-length-39 : tie.Need-same-length-39
-same-length-39 c = let t = the tie.After-tell-promote (search) in omega (arith, t.tell-promote.kept)
-
 returns-3 : tie.Need-returns-3
 returns-3 c = let t = the tie.After-tell-promote (search) in tells-of (promote t).line2.given.1 t.tell-promote.ensures
+
+same-length-37 : tie.Need-same-length-37
+same-length-37 c = let t = the tie.After-tell-remove (search) in omega (arith, t.tell-remove.kept)
+
+same-length-38 : tie.Need-same-length-38
+same-length-38 c = let t = the tie.After-tell-remove (search) in omega (arith, t.tell-remove.kept)
+
+same-length-39 : tie.Need-same-length-39
+same-length-39 c = let t = the tie.After-tell-remove (search) in omega (arith, t.tell-remove.kept)
 
 same-length-40 : tie.Need-same-length-40
 same-length-40 c = let t = the tie.After-tell-remove (search) in omega (arith, t.tell-remove.kept)
@@ -250,20 +241,20 @@ same-length-47 c = let t = the tie.After-tell-remove (search) in omega (arith, t
 same-length-48 : tie.Need-same-length-48
 same-length-48 c = let t = the tie.After-tell-remove (search) in omega (arith, t.tell-remove.kept)
 
-same-length-49 : tie.Need-same-length-49
-same-length-49 c = let t = the tie.After-tell-remove (search) in omega (arith, t.tell-remove.kept)
-
-same-length-50 : tie.Need-same-length-50
-same-length-50 c = let t = the tie.After-tell-remove (search) in omega (arith, t.tell-remove.kept)
-
-same-length-51 : tie.Need-same-length-51
-same-length-51 c = let t = the tie.After-tell-remove (search) in omega (arith, t.tell-remove.kept)
-
-same-length-52 : tie.Need-same-length-52
-same-length-52 c = let t = the tie.After-tell-remove (search) in omega (arith, t.tell-remove.kept)
-
 returns-4 : tie.Need-returns-4
 returns-4 c = let t = the tie.After-tell-remove (search) in tells-of (remove t).line3.given.1 t.tell-remove.ensures
+
+same-length-49 : tie.Need-same-length-49
+same-length-49 c = let t = the tie.After-tell-under (search) in omega (arith, t.tell-under.kept)
+
+same-length-50 : tie.Need-same-length-50
+same-length-50 c = let t = the tie.After-tell-under (search) in omega (arith, t.tell-under.kept)
+
+same-length-51 : tie.Need-same-length-51
+same-length-51 c = let t = the tie.After-tell-under (search) in omega (arith, t.tell-under.kept)
+
+same-length-52 : tie.Need-same-length-52
+same-length-52 c = let t = the tie.After-tell-under (search) in omega (arith, t.tell-under.kept)
 
 same-length-53 : tie.Need-same-length-53
 same-length-53 c = let t = the tie.After-tell-under (search) in omega (arith, t.tell-under.kept)
@@ -289,23 +280,23 @@ same-length-59 c = let t = the tie.After-tell-under (search) in omega (arith, t.
 same-length-60 : tie.Need-same-length-60
 same-length-60 c = let t = the tie.After-tell-under (search) in omega (arith, t.tell-under.kept)
 
-same-length-61 : tie.Need-same-length-61
-same-length-61 c = let t = the tie.After-tell-under (search) in omega (arith, t.tell-under.kept)
-
-same-length-62 : tie.Need-same-length-62
-same-length-62 c = let t = the tie.After-tell-under (search) in omega (arith, t.tell-under.kept)
-
-same-length-63 : tie.Need-same-length-63
-same-length-63 c = let t = the tie.After-tell-under (search) in omega (arith, t.tell-under.kept)
-
-same-length-64 : tie.Need-same-length-64
-same-length-64 c = let t = the tie.After-tell-under (search) in omega (arith, t.tell-under.kept)
-
-same-length-65 : tie.Need-same-length-65
-same-length-65 c = let t = the tie.After-tell-under (search) in omega (arith, t.tell-under.kept)
-
 returns-5 : tie.Need-returns-5
 returns-5 c = let t = the tie.After-tell-under (search) in tells-of (under t).line4.given.1 t.tell-under.ensures
+
+same-length-61 : tie.Need-same-length-61
+same-length-61 c = let t = the tie.After-tell-screen (search) in omega (arith, t.tell-screen.kept)
+
+same-length-62 : tie.Need-same-length-62
+same-length-62 c = let t = the tie.After-tell-screen (search) in omega (arith, t.tell-screen.kept)
+
+same-length-63 : tie.Need-same-length-63
+same-length-63 c = let t = the tie.After-tell-screen (search) in omega (arith, t.tell-screen.kept)
+
+same-length-64 : tie.Need-same-length-64
+same-length-64 c = let t = the tie.After-tell-screen (search) in omega (arith, t.tell-screen.kept)
+
+same-length-65 : tie.Need-same-length-65
+same-length-65 c = let t = the tie.After-tell-screen (search) in omega (arith, t.tell-screen.kept)
 
 same-length-66 : tie.Need-same-length-66
 same-length-66 c = let t = the tie.After-tell-screen (search) in omega (arith, t.tell-screen.kept)
@@ -328,158 +319,92 @@ same-length-71 c = let t = the tie.After-tell-screen (search) in omega (arith, t
 same-length-72 : tie.Need-same-length-72
 same-length-72 c = let t = the tie.After-tell-screen (search) in omega (arith, t.tell-screen.kept)
 
-same-length-73 : tie.Need-same-length-73
-same-length-73 c = let t = the tie.After-tell-screen (search) in omega (arith, t.tell-screen.kept)
-
-same-length-74 : tie.Need-same-length-74
-same-length-74 c = let t = the tie.After-tell-screen (search) in omega (arith, t.tell-screen.kept)
-
-same-length-75 : tie.Need-same-length-75
-same-length-75 c = let t = the tie.After-tell-screen (search) in omega (arith, t.tell-screen.kept)
-
-same-length-76 : tie.Need-same-length-76
-same-length-76 c = let t = the tie.After-tell-screen (search) in omega (arith, t.tell-screen.kept)
-
-same-length-77 : tie.Need-same-length-77
-same-length-77 c = let t = the tie.After-tell-screen (search) in omega (arith, t.tell-screen.kept)
-
-same-length-78 : tie.Need-same-length-78
-same-length-78 c = let t = the tie.After-tell-screen (search) in omega (arith, t.tell-screen.kept)
-
 returns-6 : tie.Need-returns-6
 returns-6 c = let t = the tie.After-tell-screen (search) in tells-of (screen t).enum-told2.given.1 t.tell-screen.ensures
 
+same-length-73 : tie.Need-same-length-73
+same-length-73 c = let t = the tie.After-tell-timer (search) in omega (arith, t.tell-timer.kept)
+
+same-length-74 : tie.Need-same-length-74
+same-length-74 c = let t = the tie.After-tell-timer (search) in omega (arith, t.tell-timer.kept)
+
+same-length-75 : tie.Need-same-length-75
+same-length-75 c = let t = the tie.After-tell-timer (search) in omega (arith, t.tell-timer.kept)
+
+same-length-76 : tie.Need-same-length-76
+same-length-76 c = let t = the tie.After-tell-timer (search) in omega (arith, t.tell-timer.kept)
+
+same-length-77 : tie.Need-same-length-77
+same-length-77 c = let t = the tie.After-tell-timer (search) in omega (arith, t.tell-timer.kept)
+
+same-length-78 : tie.Need-same-length-78
+same-length-78 c = let t = the tie.After-tell-timer (search) in omega (arith, t.tell-timer.kept)
+
 same-length-79 : tie.Need-same-length-79
-same-length-79 c = let t = the tie.After-tell-total (search) in omega (arith, t.tell-total.kept)
+same-length-79 c = let t = the tie.After-tell-timer (search) in omega (arith, t.tell-timer.kept)
 
 same-length-80 : tie.Need-same-length-80
-same-length-80 c = let t = the tie.After-tell-total (search) in omega (arith, t.tell-total.kept)
+same-length-80 c = let t = the tie.After-tell-timer (search) in omega (arith, t.tell-timer.kept)
 
 same-length-81 : tie.Need-same-length-81
-same-length-81 c = let t = the tie.After-tell-total (search) in omega (arith, t.tell-total.kept)
+same-length-81 c = let t = the tie.After-tell-timer (search) in omega (arith, t.tell-timer.kept)
 
 same-length-82 : tie.Need-same-length-82
-same-length-82 c = let t = the tie.After-tell-total (search) in omega (arith, t.tell-total.kept)
+same-length-82 c = let t = the tie.After-tell-timer (search) in omega (arith, t.tell-timer.kept)
 
 same-length-83 : tie.Need-same-length-83
-same-length-83 c = let t = the tie.After-tell-total (search) in omega (arith, t.tell-total.kept)
+same-length-83 c = let t = the tie.After-tell-timer (search) in omega (arith, t.tell-timer.kept)
 
 same-length-84 : tie.Need-same-length-84
-same-length-84 c = let t = the tie.After-tell-total (search) in omega (arith, t.tell-total.kept)
-
-same-length-85 : tie.Need-same-length-85
-same-length-85 c = let t = the tie.After-tell-total (search) in omega (arith, t.tell-total.kept)
-
-same-length-86 : tie.Need-same-length-86
-same-length-86 c = let t = the tie.After-tell-total (search) in omega (arith, t.tell-total.kept)
-
-same-length-87 : tie.Need-same-length-87
-same-length-87 c = let t = the tie.After-tell-total (search) in omega (arith, t.tell-total.kept)
-
-same-length-88 : tie.Need-same-length-88
-same-length-88 c = let t = the tie.After-tell-total (search) in omega (arith, t.tell-total.kept)
-
-same-length-89 : tie.Need-same-length-89
-same-length-89 c = let t = the tie.After-tell-total (search) in omega (arith, t.tell-total.kept)
-
-same-length-90 : tie.Need-same-length-90
-same-length-90 c = let t = the tie.After-tell-total (search) in omega (arith, t.tell-total.kept)
-
-same-length-91 : tie.Need-same-length-91
-same-length-91 c = let t = the tie.After-tell-total (search) in omega (arith, t.tell-total.kept)
+same-length-84 c = let t = the tie.After-tell-timer (search) in omega (arith, t.tell-timer.kept)
 
 returns-7 : tie.Need-returns-7
-returns-7 c = let t = the tie.After-tell-total (search) in tells-of (total t).enum-told3.given.1 t.tell-total.ensures
+returns-7 c = let t = the tie.After-tell-timer (search) in tells-of (timer t).line5.given.1 t.tell-timer.ensures
+
+same-length-85 : tie.Need-same-length-85
+same-length-85 c = let t = the tie.After-tell-restart (search) in omega (arith, t.tell-restart.kept)
+
+same-length-86 : tie.Need-same-length-86
+same-length-86 c = let t = the tie.After-tell-restart (search) in omega (arith, t.tell-restart.kept)
+
+same-length-87 : tie.Need-same-length-87
+same-length-87 c = let t = the tie.After-tell-restart (search) in omega (arith, t.tell-restart.kept)
+
+same-length-88 : tie.Need-same-length-88
+same-length-88 c = let t = the tie.After-tell-restart (search) in omega (arith, t.tell-restart.kept)
+
+same-length-89 : tie.Need-same-length-89
+same-length-89 c = let t = the tie.After-tell-restart (search) in omega (arith, t.tell-restart.kept)
+
+same-length-90 : tie.Need-same-length-90
+same-length-90 c = let t = the tie.After-tell-restart (search) in omega (arith, t.tell-restart.kept)
+
+same-length-91 : tie.Need-same-length-91
+same-length-91 c = let t = the tie.After-tell-restart (search) in omega (arith, t.tell-restart.kept)
 
 same-length-92 : tie.Need-same-length-92
-same-length-92 c = let t = the tie.After-tell-timer (search) in omega (arith, t.tell-timer.kept)
+same-length-92 c = let t = the tie.After-tell-restart (search) in omega (arith, t.tell-restart.kept)
 
 same-length-93 : tie.Need-same-length-93
-same-length-93 c = let t = the tie.After-tell-timer (search) in omega (arith, t.tell-timer.kept)
+same-length-93 c = let t = the tie.After-tell-restart (search) in omega (arith, t.tell-restart.kept)
 
 same-length-94 : tie.Need-same-length-94
-same-length-94 c = let t = the tie.After-tell-timer (search) in omega (arith, t.tell-timer.kept)
+same-length-94 c = let t = the tie.After-tell-restart (search) in omega (arith, t.tell-restart.kept)
 
 same-length-95 : tie.Need-same-length-95
-same-length-95 c = let t = the tie.After-tell-timer (search) in omega (arith, t.tell-timer.kept)
+same-length-95 c = let t = the tie.After-tell-restart (search) in omega (arith, t.tell-restart.kept)
 
 same-length-96 : tie.Need-same-length-96
-same-length-96 c = let t = the tie.After-tell-timer (search) in omega (arith, t.tell-timer.kept)
-
-same-length-97 : tie.Need-same-length-97
-same-length-97 c = let t = the tie.After-tell-timer (search) in omega (arith, t.tell-timer.kept)
-
-same-length-98 : tie.Need-same-length-98
-same-length-98 c = let t = the tie.After-tell-timer (search) in omega (arith, t.tell-timer.kept)
-
-same-length-99 : tie.Need-same-length-99
-same-length-99 c = let t = the tie.After-tell-timer (search) in omega (arith, t.tell-timer.kept)
-
-same-length-100 : tie.Need-same-length-100
-same-length-100 c = let t = the tie.After-tell-timer (search) in omega (arith, t.tell-timer.kept)
-
-same-length-101 : tie.Need-same-length-101
-same-length-101 c = let t = the tie.After-tell-timer (search) in omega (arith, t.tell-timer.kept)
-
-same-length-102 : tie.Need-same-length-102
-same-length-102 c = let t = the tie.After-tell-timer (search) in omega (arith, t.tell-timer.kept)
-
-same-length-103 : tie.Need-same-length-103
-same-length-103 c = let t = the tie.After-tell-timer (search) in omega (arith, t.tell-timer.kept)
-
-same-length-104 : tie.Need-same-length-104
-same-length-104 c = let t = the tie.After-tell-timer (search) in omega (arith, t.tell-timer.kept)
+same-length-96 c = let t = the tie.After-tell-restart (search) in omega (arith, t.tell-restart.kept)
 
 returns-8 : tie.Need-returns-8
-returns-8 c = let t = the tie.After-tell-timer (search) in tells-of (timer t).line5.given.1 t.tell-timer.ensures
+returns-8 c = let t = the tie.After-tell-restart (search) in tells-of (restart t).line6.given.1 t.tell-restart.ensures
 
-same-length-105 : tie.Need-same-length-105
-same-length-105 c = let t = the tie.After-tell-restart (search) in omega (arith, t.tell-restart.kept)
-
-same-length-106 : tie.Need-same-length-106
-same-length-106 c = let t = the tie.After-tell-restart (search) in omega (arith, t.tell-restart.kept)
-
-same-length-107 : tie.Need-same-length-107
-same-length-107 c = let t = the tie.After-tell-restart (search) in omega (arith, t.tell-restart.kept)
-
-same-length-108 : tie.Need-same-length-108
-same-length-108 c = let t = the tie.After-tell-restart (search) in omega (arith, t.tell-restart.kept)
-
-same-length-109 : tie.Need-same-length-109
-same-length-109 c = let t = the tie.After-tell-restart (search) in omega (arith, t.tell-restart.kept)
-
-same-length-110 : tie.Need-same-length-110
-same-length-110 c = let t = the tie.After-tell-restart (search) in omega (arith, t.tell-restart.kept)
-
-same-length-111 : tie.Need-same-length-111
-same-length-111 c = let t = the tie.After-tell-restart (search) in omega (arith, t.tell-restart.kept)
-
-same-length-112 : tie.Need-same-length-112
-same-length-112 c = let t = the tie.After-tell-restart (search) in omega (arith, t.tell-restart.kept)
-
-same-length-113 : tie.Need-same-length-113
-same-length-113 c = let t = the tie.After-tell-restart (search) in omega (arith, t.tell-restart.kept)
-
-same-length-114 : tie.Need-same-length-114
-same-length-114 c = let t = the tie.After-tell-restart (search) in omega (arith, t.tell-restart.kept)
-
-same-length-115 : tie.Need-same-length-115
-same-length-115 c = let t = the tie.After-tell-restart (search) in omega (arith, t.tell-restart.kept)
-
-same-length-116 : tie.Need-same-length-116
-same-length-116 c = let t = the tie.After-tell-restart (search) in omega (arith, t.tell-restart.kept)
-
-same-length-117 : tie.Need-same-length-117
-same-length-117 c = let t = the tie.After-tell-restart (search) in omega (arith, t.tell-restart.kept)
+same-length-97 : tie.Need-same-length-97
+same-length-97 c = let t = the tie.After-tell-unread (search) in omega (arith, t.tell-unread.kept)
 
 returns-9 : tie.Need-returns-9
-returns-9 c = let t = the tie.After-tell-restart (search) in tells-of (restart t).line6.given.1 t.tell-restart.ensures
-
-same-length-118 : tie.Need-same-length-118
-same-length-118 c = let t = the tie.After-tell-unread (search) in omega (arith, t.tell-unread.kept)
-
-returns-10 : tie.Need-returns-10
-returns-10 c = let t = the tie.After-tell-unread (search) in tells-of (unread t).enum-told4.given.1 (t.tell-unread.ensures _)
+returns-9 c = let t = the tie.After-tell-unread (search) in tells-of (unread t).enum-told3.given.1 (t.tell-unread.ensures _)
 
 pub answer-spec : {M : Type 1} → statement M
 answer-spec =
@@ -497,13 +422,11 @@ answer-spec =
     tell-under-requires
     enum-told-2
     tell-screen-requires
-    enum-told-3
-    tell-total-requires
     enum-known-line-5
     tell-timer-requires
     enum-known-line-6
     tell-restart-requires
-    enum-told-4
+    enum-told-3
     tell-unread-requires
     same_length
     same-length-2
@@ -517,8 +440,8 @@ answer-spec =
     same-length-10
     same-length-11
     same-length-12
-    same-length-13
     returns
+    same-length-13
     same-length-14
     same-length-15
     same-length-16
@@ -530,9 +453,9 @@ answer-spec =
     same-length-22
     same-length-23
     same-length-24
+    returns-2
     same-length-25
     same-length-26
-    returns-2
     same-length-27
     same-length-28
     same-length-29
@@ -543,10 +466,10 @@ answer-spec =
     same-length-34
     same-length-35
     same-length-36
+    returns-3
     same-length-37
     same-length-38
     same-length-39
-    returns-3
     same-length-40
     same-length-41
     same-length-42
@@ -556,11 +479,11 @@ answer-spec =
     same-length-46
     same-length-47
     same-length-48
+    returns-4
     same-length-49
     same-length-50
     same-length-51
     same-length-52
-    returns-4
     same-length-53
     same-length-54
     same-length-55
@@ -569,12 +492,12 @@ answer-spec =
     same-length-58
     same-length-59
     same-length-60
+    returns-5
     same-length-61
     same-length-62
     same-length-63
     same-length-64
     same-length-65
-    returns-5
     same-length-66
     same-length-67
     same-length-68
@@ -582,19 +505,20 @@ answer-spec =
     same-length-70
     same-length-71
     same-length-72
+    returns-6
     same-length-73
     same-length-74
     same-length-75
     same-length-76
     same-length-77
     same-length-78
-    returns-6
     same-length-79
     same-length-80
     same-length-81
     same-length-82
     same-length-83
     same-length-84
+    returns-7
     same-length-85
     same-length-86
     same-length-87
@@ -602,34 +526,11 @@ answer-spec =
     same-length-89
     same-length-90
     same-length-91
-    returns-7
     same-length-92
     same-length-93
     same-length-94
     same-length-95
     same-length-96
-    same-length-97
-    same-length-98
-    same-length-99
-    same-length-100
-    same-length-101
-    same-length-102
-    same-length-103
-    same-length-104
     returns-8
-    same-length-105
-    same-length-106
-    same-length-107
-    same-length-108
-    same-length-109
-    same-length-110
-    same-length-111
-    same-length-112
-    same-length-113
-    same-length-114
-    same-length-115
-    same-length-116
-    same-length-117
-    returns-9
-    same-length-118
-    returns-10)
+    same-length-97
+    returns-9)

@@ -56,10 +56,7 @@ same-length-11 : tie.Need-same-length-11
 same-length-11 c = omega (arith, (called (looked (the tie.After-fresh-line (search)))).fresh.auto)
 
 same-length-12 : tie.Need-same-length-12
-same-length-12 c = omega (arith, (called (looked (the tie.After-fresh-line (search)))).fresh.auto)
-
-same-length-13 : tie.Need-same-length-13
-same-length-13 c = search rules
+same-length-12 c = search rules
 
 returns : tie.Need-returns
 returns c =
@@ -87,5 +84,4 @@ tell-fresh-spec =
     same-length-10
     same-length-11
     same-length-12
-    same-length-13
     returns)

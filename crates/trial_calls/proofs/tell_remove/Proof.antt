@@ -50,10 +50,7 @@ same-length-11 : tie.Need-same-length-11
 same-length-11 c = omega (arith, (called (the tie.After-remove-line (search))).remove.auto)
 
 same-length-12 : tie.Need-same-length-12
-same-length-12 c = omega (arith, (called (the tie.After-remove-line (search))).remove.auto)
-
-same-length-13 : tie.Need-same-length-13
-same-length-13 c = search rules
+same-length-12 c = search rules
 
 returns : tie.Need-returns
 returns c =
@@ -79,5 +76,4 @@ tell-remove-spec =
     same-length-10
     same-length-11
     same-length-12
-    same-length-13
     returns)

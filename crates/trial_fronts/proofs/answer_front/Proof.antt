@@ -87,12 +87,6 @@ slice-relend-prefix-answer-11 c = let p = the tie.After-cut (search) in omega (a
 slice-aggregate-answer-11 : tie.Need-slice-aggregate-answer-11
 slice-aggregate-answer-11 c = let p = the tie.After-cut (search) in front_length _ _ (omega (arith, within p.cut.ensures))
 
-slice-relend-prefix-answer-12 : tie.Need-slice-relend-prefix-answer-12
-slice-relend-prefix-answer-12 c = let p = the tie.After-cut (search) in omega (arith, within p.cut.ensures)
-
-slice-aggregate-answer-12 : tie.Need-slice-aggregate-answer-12
-slice-aggregate-answer-12 c = let p = the tie.After-cut (search) in front_length _ _ (omega (arith, within p.cut.ensures))
-
 answer-requires : tie.Need-answer-requires
 answer-requires c κs = tt
 
@@ -130,46 +124,40 @@ same-length-6 : tie.Need-same-length-6
 same-length-6 c =
     let t = the tie.After-answer (search) in
     let p = known t in
-    simp (length-append, length-drop) (omega (arith, t.answer.kept, length-take p.cut.result.map (start (lending p)).args.map.now, p.cut.ensures.map))
+    simp (length-append, length-drop) (omega (arith, t.answer.kept, length-take p.cut.result.tips (start (lending p)).args.tips.now, p.cut.ensures.tips))
 
 same-length-7 : tie.Need-same-length-7
 same-length-7 c =
     let t = the tie.After-answer (search) in
     let p = known t in
-    simp (length-append, length-drop) (omega (arith, t.answer.kept, length-take p.cut.result.tips (start (lending p)).args.tips.now, p.cut.ensures.tips))
+    simp (length-append, length-drop) (omega (arith, t.answer.kept, length-take p.cut.result.tails (start (lending p)).args.tails.now, p.cut.ensures.tails))
 
 same-length-8 : tie.Need-same-length-8
 same-length-8 c =
     let t = the tie.After-answer (search) in
     let p = known t in
-    simp (length-append, length-drop) (omega (arith, t.answer.kept, length-take p.cut.result.tails (start (lending p)).args.tails.now, p.cut.ensures.tails))
+    simp (length-append, length-drop) (omega (arith, t.answer.kept, length-take p.cut.result.missing (start (lending p)).args.missing.now, p.cut.ensures.missing))
 
 same-length-9 : tie.Need-same-length-9
 same-length-9 c =
     let t = the tie.After-answer (search) in
     let p = known t in
-    simp (length-append, length-drop) (omega (arith, t.answer.kept, length-take p.cut.result.missing (start (lending p)).args.missing.now, p.cut.ensures.missing))
+    simp (length-append, length-drop) (omega (arith, t.answer.kept, length-take p.cut.result.requested (start (lending p)).args.requested.now, p.cut.ensures.requested))
 
 same-length-10 : tie.Need-same-length-10
 same-length-10 c =
     let t = the tie.After-answer (search) in
     let p = known t in
-    simp (length-append, length-drop) (omega (arith, t.answer.kept, length-take p.cut.result.requested (start (lending p)).args.requested.now, p.cut.ensures.requested))
+    simp (length-append, length-drop) (omega (arith, t.answer.kept, length-take p.cut.result.arrivals (start (lending p)).args.arrivals.now, p.cut.ensures.arrivals))
 
 same-length-11 : tie.Need-same-length-11
 same-length-11 c =
     let t = the tie.After-answer (search) in
     let p = known t in
-    simp (length-append, length-drop) (omega (arith, t.answer.kept, length-take p.cut.result.arrivals (start (lending p)).args.arrivals.now, p.cut.ensures.arrivals))
-
-same-length-12 : tie.Need-same-length-12
-same-length-12 c =
-    let t = the tie.After-answer (search) in
-    let p = known t in
     simp (length-append, length-drop) (omega (arith, t.answer.kept, length-take p.cut.result.connected (start (lending p)).args.connected.now, p.cut.ensures.connected))
 
-same-length-13 : tie.Need-same-length-13
-same-length-13 c = search rules
+same-length-12 : tie.Need-same-length-12
+same-length-12 c = search rules
 
 returns : tie.Need-returns
 returns c =
@@ -181,7 +169,6 @@ returns c =
       sequences = came _ _ _ _ e.sequences (omega (arith, t.answer.kept));
       counts = came _ _ _ _ e.counts (omega (arith, t.answer.kept));
       flags = came _ _ _ _ e.flags (omega (arith, t.answer.kept));
-      map = came _ _ _ _ e.map (omega (arith, t.answer.kept));
       tips = came _ _ _ _ e.tips (omega (arith, t.answer.kept));
       tails = came _ _ _ _ e.tails (omega (arith, t.answer.kept));
       missing = came _ _ _ _ e.missing (omega (arith, t.answer.kept));
@@ -217,8 +204,6 @@ answer-front-spec =
     slice-aggregate-answer-10
     slice-relend-prefix-answer-11
     slice-aggregate-answer-11
-    slice-relend-prefix-answer-12
-    slice-aggregate-answer-12
     answer-requires
     same_length
     same-length-2
@@ -232,5 +217,4 @@ answer-front-spec =
     same-length-10
     same-length-11
     same-length-12
-    same-length-13
     returns)

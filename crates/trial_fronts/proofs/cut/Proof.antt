@@ -21,20 +21,17 @@ least-requires-4 c κs = tt
 least-requires-5 : tie.Need-least-requires-5
 least-requires-5 c κs = tt
 
-add-least : tie.Need-overflow-add-least
-add-least c = search rules
-
 least-requires-6 : tie.Need-least-requires-6
 least-requires-6 c κs = tt
 
 least-requires-7 : tie.Need-least-requires-7
 least-requires-7 c κs = tt
 
-least-requires-8 : tie.Need-least-requires-8
-least-requires-8 c κs = tt
-
 mul-least-2 : tie.Need-overflow-mul-least-2
 mul-least-2 c = search rules
+
+least-requires-8 : tie.Need-least-requires-8
+least-requires-8 c κs = tt
 
 least-requires-9 : tie.Need-least-requires-9
 least-requires-9 c κs = tt
@@ -45,9 +42,6 @@ least-requires-10 c κs = tt
 least-requires-11 : tie.Need-least-requires-11
 least-requires-11 c κs = tt
 
-least-requires-12 : tie.Need-least-requires-12
-least-requires-12 c κs = tt
-
 returns : tie.Need-returns
 returns c = record {
   hashes = search;
@@ -55,7 +49,6 @@ returns c = record {
   sequences = search;
   counts = search;
   flags = search;
-  map = search;
   tips = search;
   tails = search;
   missing = search;
@@ -74,13 +67,11 @@ cut_spec =
     least-requires-3
     least-requires-4
     least-requires-5
-    add-least
     least-requires-6
     least-requires-7
-    least-requires-8
     mul-least-2
+    least-requires-8
     least-requires-9
     least-requires-10
     least-requires-11
-    least-requires-12
     returns)

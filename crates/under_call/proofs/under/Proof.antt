@@ -37,7 +37,7 @@ met-under-requires c κs =
     let e = the tie.Else1 (search) in
     let s = e.before.is-shaped in
     let a = (to_start e.before).args in
-    let tables = tables_of a.hashes.now a.parents.now a.sequences.now a.counts.now a.flags.now a.map.now a.tips.now a.tails.now
+    let tables = tables_of a.hashes.now a.parents.now a.sequences.now a.counts.now a.flags.now a.tips.now a.tails.now
     a.missing.now a.requested.now a.arrivals.now a.connected.now in
     (few-slots tables (sym s.ensures ∙ not-false s.result e.if1.left), sym o.ensures ∙ not-false o.result b.if2.left)
 

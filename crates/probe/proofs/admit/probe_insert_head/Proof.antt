@@ -40,9 +40,6 @@ same-length-10 c = omega (arith, (the tie.After-insert-head (search)).insert-hea
 same-length-11 : tie.Need-same-length-11
 same-length-11 c = omega (arith, (the tie.After-insert-head (search)).insert-head.kept)
 
-same-length-12 : tie.Need-same-length-12
-same-length-12 c = omega (arith, (the tie.After-insert-head (search)).insert-head.kept)
-
 returns : tie.Need-returns
 returns c =
     let insert-head = let p : tie.After-insert-head = search in p.insert-head in
@@ -64,5 +61,4 @@ probe-insert-head-spec =
     same-length-9
     same-length-10
     same-length-11
-    same-length-12
     returns)

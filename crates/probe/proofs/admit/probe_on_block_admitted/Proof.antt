@@ -44,9 +44,6 @@ same-length-10 c = omega (arith, (the tie.After-on-block-admitted (search)).on-b
 same-length-11 : tie.Need-same-length-11
 same-length-11 c = omega (arith, (the tie.After-on-block-admitted (search)).on-block-admitted.kept)
 
-same-length-12 : tie.Need-same-length-12
-same-length-12 c = omega (arith, (the tie.After-on-block-admitted (search)).on-block-admitted.kept)
-
 returns : tie.Need-returns
 returns c =
     let slot-from = let p : tie.After-slot-from = search in p.slot-from in
@@ -70,5 +67,4 @@ probe-on-block-admitted-spec =
     same-length-9
     same-length-10
     same-length-11
-    same-length-12
     returns)

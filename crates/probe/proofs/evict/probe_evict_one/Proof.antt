@@ -40,9 +40,6 @@ same-length-10 c = omega (arith, (the tie.After-evict-one (search)).evict-one.ke
 same-length-11 : tie.Need-same-length-11
 same-length-11 c = omega (arith, (the tie.After-evict-one (search)).evict-one.kept)
 
-same-length-12 : tie.Need-same-length-12
-same-length-12 c = omega (arith, (the tie.After-evict-one (search)).evict-one.kept)
-
 returns : tie.Need-returns
 returns c =
     let evict-one = let p : tie.After-evict-one = search in p.evict-one in
@@ -64,5 +61,4 @@ probe-evict-one-spec =
     same-length-9
     same-length-10
     same-length-11
-    same-length-12
     returns)

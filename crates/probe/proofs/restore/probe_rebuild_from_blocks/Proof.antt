@@ -40,9 +40,6 @@ same-length-10 c = omega (arith, (the tie.After-rebuild-from-blocks (search)).re
 same-length-11 : tie.Need-same-length-11
 same-length-11 c = omega (arith, (the tie.After-rebuild-from-blocks (search)).rebuild-from-blocks.kept)
 
-same-length-12 : tie.Need-same-length-12
-same-length-12 c = omega (arith, (the tie.After-rebuild-from-blocks (search)).rebuild-from-blocks.kept)
-
 returns : tie.Need-returns
 returns c =
     let rebuild-from-blocks = let p : tie.After-rebuild-from-blocks = search in p.rebuild-from-blocks in
@@ -64,5 +61,4 @@ probe-rebuild-from-blocks-spec =
     same-length-9
     same-length-10
     same-length-11
-    same-length-12
     returns)

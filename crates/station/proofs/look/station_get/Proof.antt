@@ -29,18 +29,16 @@ returns c =
     let if1 = let p : tie.Then1 = search in p.if1 in
     let put-hash = let p : tie.After-put-hash = search in p.put-hash in
     let put-words = let p : tie.After-put-words = search in p.put-words in
-    λ map.
-    let b = blocks_of a.hashes.now a.parents.now a.sequences.now a.counts.now a.flags.now map in
-    let e : some get-call.result.block ≡ get b a.slot = block-there _ _ (get-call.ensures map) if1.taken in
+    let b = blocks_of a.hashes.now a.parents.now a.sequences.now a.counts.now a.flags.now in
+    let e : some get-call.result.block ≡ get b a.slot = block-there _ _ get-call.ensures if1.taken in
     rw (← e) (refl, (put-hash.ensures, put-words.ensures))
 
 returns-2 : tie.Need-returns-2
 returns-2 c =
     let a = let p : tie.Start = search in p.args in
     let get-call = let p : tie.After-get = search in p.get in
-    λ map.
-    let b = blocks_of a.hashes.now a.parents.now a.sequences.now a.counts.now a.flags.now map in
-    let e : none ≡ get b a.slot = nothing-there _ _ (get-call.ensures map) c.if1.false in
+    let b = blocks_of a.hashes.now a.parents.now a.sequences.now a.counts.now a.flags.now in
+    let e : none ≡ get b a.slot = nothing-there _ _ get-call.ensures c.if1.false in
     rw (← e) (refl, (refl, refl))
 
 pub station-get-spec : {M : Type 1} → statement M

@@ -43,9 +43,6 @@ same-length-10 c = omega (arith, (the tie.After-restart (search)).restart.kept)
 same-length-11 : tie.Need-same-length-11
 same-length-11 c = omega (arith, (the tie.After-restart (search)).restart.kept)
 
-same-length-12 : tie.Need-same-length-12
-same-length-12 c = omega (arith, (the tie.After-restart (search)).restart.kept)
-
 returns : tie.Need-returns
 returns c = let p : tie.After-restart = search in gives c.outcome-number.ensures p.restart.ensures
 
@@ -66,5 +63,4 @@ station-restart-spec =
     same-length-9
     same-length-10
     same-length-11
-    same-length-12
     returns)

@@ -8,11 +8,11 @@ use Rattle.trial.proofs.run.run.Statement.{statement}
 use Rattle.trial.proofs.run.run.Tie as tie
 
 abbrev invariant-loop : tie.invariant-loop
-invariant-loop fd name hashes₀ parents₀ sequences₀ counts₀ flags₀ map₀ tips₀ tails₀ missing₀ requested₀ arrivals₀ connected₀ line₀ noted-line₀ chunk₀ out₀ notes₀ trial₀ noting₀ turns₀ hashes parents sequences counts flags map tips tails missing requested arrivals connected line noted-line chunk out notes trial noting turns =
+invariant-loop fd name hashes₀ parents₀ sequences₀ counts₀ flags₀ tips₀ tails₀ missing₀ requested₀ arrivals₀ connected₀ line₀ noted-line₀ chunk₀ out₀ notes₀ trial₀ noting₀ turns₀ hashes parents sequences counts flags tips tails missing requested arrivals connected line noted-line chunk out notes trial noting turns =
     length chunk ≡ 2048
 
 abbrev decreases-loop : tie.decreases-loop
-decreases-loop fd name hashes₀ parents₀ sequences₀ counts₀ flags₀ map₀ tips₀ tails₀ missing₀ requested₀ arrivals₀ connected₀ line₀ noted-line₀ chunk₀ out₀ notes₀ trial₀ noting₀ turns₀ hashes parents sequences counts flags map tips tails missing requested arrivals connected line noted-line chunk out notes trial noting turns =
+decreases-loop fd name hashes₀ parents₀ sequences₀ counts₀ flags₀ tips₀ tails₀ missing₀ requested₀ arrivals₀ connected₀ line₀ noted-line₀ chunk₀ out₀ notes₀ trial₀ noting₀ turns₀ hashes parents sequences counts flags tips tails missing requested arrivals connected line noted-line chunk out notes trial noting turns =
     turns
 
 abbrev printed : tie.After-note invariant-loop decreases-loop → tie.After-feed invariant-loop decreases-loop

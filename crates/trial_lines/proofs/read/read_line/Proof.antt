@@ -1,7 +1,7 @@
 -- By the letter.
 use mathlib.Core.Path.{◌≡◌, sym, ap, ◌∙◌}
 use borrow.Author.Tests.{eq-eqb, ne_eqb}
-use Rattle.trial_lines.specs.Reading.{letter, parse, fresh_of, admit_of, promote_of, remove_of, under_of, timer_of, restart_of}
+use Rattle.trial_lines.specs.Reading.{letter, parse, fresh_of, admit_of, promote_of, remove_of, under_of, screen_read, timer_of, restart_of}
 use Rattle.trial_lines.proofs.read.read_line.Statement.{statement}
 use Rattle.trial_lines.proofs.read.read_line.Tie as tie
 
@@ -109,8 +109,8 @@ returns-5 c =
       eq-eqb (letter b) 85 (sym k ∙ if5.taken),
     ) (c.read_under.ensures ∙ ap under_of rest-call.ensures)
 
-read-alone-requires : tie.Need-read-alone-requires
-read-alone-requires c κs = tt
+read-screen-requires : tie.Need-read-screen-requires
+read-screen-requires c κs = tt
 
 returns-6 : tie.Need-returns-6
 unfolding parse
@@ -132,15 +132,16 @@ returns-6 c =
       ne_eqb (letter b) 68 (λ e. if4.left (k ∙ e)),
       ne_eqb (letter b) 85 (λ e. if5.left (k ∙ e)),
       eq-eqb (letter b) 86 (sym k ∙ if6.taken),
-    ) c.read-alone.ensures
+    ) c.read-screen.ensures
 
-read-alone-requires-2 : tie.Need-read-alone-requires-2
-read-alone-requires-2 c κs = tt
+read-timer-requires : tie.Need-read-timer-requires
+read-timer-requires c κs = tt
 
 returns-7 : tie.Need-returns-7
 unfolding parse
 returns-7 c =
     let args = let p : tie.Start = search in p.args in
+    let rest-call = let p : tie.After-rest = search in p.rest in
     let letter-call = let p : tie.After-letter = search in p.letter in
     let if1 = let p : tie.Else1 = search in p.if1 in
     let if2 = let p : tie.Else2 = search in p.if2 in
@@ -158,11 +159,11 @@ returns-7 c =
       ne_eqb (letter b) 68 (λ e. if4.left (k ∙ e)),
       ne_eqb (letter b) 85 (λ e. if5.left (k ∙ e)),
       ne_eqb (letter b) 86 (λ e. if6.left (k ∙ e)),
-      eq-eqb (letter b) 79 (sym k ∙ if7.taken),
-    ) c.read-alone2.ensures
+      eq-eqb (letter b) 84 (sym k ∙ if7.taken),
+    ) (c.read-timer.ensures ∙ ap timer_of rest-call.ensures)
 
-read-timer-requires : tie.Need-read-timer-requires
-read-timer-requires c κs = tt
+read-restart-requires : tie.Need-read-restart-requires
+read-restart-requires c κs = tt
 
 returns-8 : tie.Need-returns-8
 unfolding parse
@@ -187,18 +188,14 @@ returns-8 c =
       ne_eqb (letter b) 68 (λ e. if4.left (k ∙ e)),
       ne_eqb (letter b) 85 (λ e. if5.left (k ∙ e)),
       ne_eqb (letter b) 86 (λ e. if6.left (k ∙ e)),
-      ne_eqb (letter b) 79 (λ e. if7.left (k ∙ e)),
-      eq-eqb (letter b) 84 (sym k ∙ if8.taken),
-    ) (c.read-timer.ensures ∙ ap timer_of rest-call.ensures)
-
-read-restart-requires : tie.Need-read-restart-requires
-read-restart-requires c κs = tt
+      ne_eqb (letter b) 84 (λ e. if7.left (k ∙ e)),
+      eq-eqb (letter b) 82 (sym k ∙ if8.taken),
+    ) (c.read-restart.ensures ∙ ap restart_of rest-call.ensures)
 
 returns-9 : tie.Need-returns-9
 unfolding parse
 returns-9 c =
     let args = let p : tie.Start = search in p.args in
-    let rest-call = let p : tie.After-rest = search in p.rest in
     let letter-call = let p : tie.After-letter = search in p.letter in
     let if1 = let p : tie.Else1 = search in p.if1 in
     let if2 = let p : tie.Else2 = search in p.if2 in
@@ -207,8 +204,6 @@ returns-9 c =
     let if5 = let p : tie.Else5 = search in p.if5 in
     let if6 = let p : tie.Else6 = search in p.if6 in
     let if7 = let p : tie.Else7 = search in p.if7 in
-    let if8 = let p : tie.Else8 = search in p.if8 in
-    let if9 = let p : tie.Then9 = search in p.if9 in
     let b = args.line.now in
     let k : letter-call.result ≡ letter b = letter-call.ensures in
     rw (
@@ -218,36 +213,8 @@ returns-9 c =
       ne_eqb (letter b) 68 (λ e. if4.left (k ∙ e)),
       ne_eqb (letter b) 85 (λ e. if5.left (k ∙ e)),
       ne_eqb (letter b) 86 (λ e. if6.left (k ∙ e)),
-      ne_eqb (letter b) 79 (λ e. if7.left (k ∙ e)),
-      ne_eqb (letter b) 84 (λ e. if8.left (k ∙ e)),
-      eq-eqb (letter b) 82 (sym k ∙ if9.taken),
-    ) (c.read-restart.ensures ∙ ap restart_of rest-call.ensures)
-
-returns-10 : tie.Need-returns-10
-unfolding parse
-returns-10 c =
-    let args = let p : tie.Start = search in p.args in
-    let letter-call = let p : tie.After-letter = search in p.letter in
-    let if1 = let p : tie.Else1 = search in p.if1 in
-    let if2 = let p : tie.Else2 = search in p.if2 in
-    let if3 = let p : tie.Else3 = search in p.if3 in
-    let if4 = let p : tie.Else4 = search in p.if4 in
-    let if5 = let p : tie.Else5 = search in p.if5 in
-    let if6 = let p : tie.Else6 = search in p.if6 in
-    let if7 = let p : tie.Else7 = search in p.if7 in
-    let if8 = let p : tie.Else8 = search in p.if8 in
-    let b = args.line.now in
-    let k : letter-call.result ≡ letter b = letter-call.ensures in
-    rw (
-      ne_eqb (letter b) 78 (λ e. if1.left (k ∙ e)),
-      ne_eqb (letter b) 65 (λ e. if2.left (k ∙ e)),
-      ne_eqb (letter b) 80 (λ e. if3.left (k ∙ e)),
-      ne_eqb (letter b) 68 (λ e. if4.left (k ∙ e)),
-      ne_eqb (letter b) 85 (λ e. if5.left (k ∙ e)),
-      ne_eqb (letter b) 86 (λ e. if6.left (k ∙ e)),
-      ne_eqb (letter b) 79 (λ e. if7.left (k ∙ e)),
-      ne_eqb (letter b) 84 (λ e. if8.left (k ∙ e)),
-      ne_eqb (letter b) 82 (λ e. c.if9.false (k ∙ e)),
+      ne_eqb (letter b) 84 (λ e. if7.left (k ∙ e)),
+      ne_eqb (letter b) 82 (λ e. c.if8.false (k ∙ e)),
     )
 
 pub read-line-spec : {M : Type 1} → statement M
@@ -266,12 +233,10 @@ read-line-spec =
     returns-4
     read-under-requires
     returns-5
-    read-alone-requires
+    read-screen-requires
     returns-6
-    read-alone-requires-2
-    returns-7
     read-timer-requires
-    returns-8
+    returns-7
     read-restart-requires
-    returns-9
-    returns-10)
+    returns-8
+    returns-9)

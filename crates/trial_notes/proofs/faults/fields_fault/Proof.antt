@@ -69,54 +69,44 @@ returns-5 c =
     let f = (the tie.After-number-last3 (search)).number-last3 in
     rw (sym k.ensures ∙ (the tie.Then5 (search)).if5.taken) (f.ensures ∙ rw r.ensures)
 
-alone-fault-requires : tie.Need-alone-fault-requires
-alone-fault-requires c κs = search rules
+screen-fault-requires : tie.Need-screen-fault-requires
+screen-fault-requires c κs = search rules
 
 returns-6 : tie.Need-returns-6
 unfolding fields_fault
 returns-6 c =
     let k = (the tie.After-letter (search)).letter in
-    let f = (the tie.After-alone-fault (search)).alone-fault in
+    let f = (the tie.After-screen-fault (search)).screen-fault in
     rw (sym k.ensures ∙ (the tie.Then6 (search)).if6.taken) f.ensures
 
-alone-fault-requires-2 : tie.Need-alone-fault-requires-2
-alone-fault-requires-2 c κs = search rules
+timer-fault-requires : tie.Need-timer-fault-requires
+timer-fault-requires c κs = search rules
 
 returns-7 : tie.Need-returns-7
 unfolding fields_fault
 returns-7 c =
     let k = (the tie.After-letter (search)).letter in
-    let f = (the tie.After-alone-fault2 (search)).alone-fault2 in
-    rw (sym k.ensures ∙ (the tie.Then7 (search)).if7.taken) f.ensures
+    let r = (the tie.After-rest (search)).rest in
+    let f = (the tie.After-timer-fault (search)).timer-fault in
+    rw (sym k.ensures ∙ (the tie.Then7 (search)).if7.taken) (f.ensures ∙ rw r.ensures)
 
-timer-fault-requires : tie.Need-timer-fault-requires
-timer-fault-requires c κs = search rules
+number-last-requires-4 : tie.Need-number-last-requires-4
+number-last-requires-4 c κs = search rules
 
 returns-8 : tie.Need-returns-8
 unfolding fields_fault
 returns-8 c =
     let k = (the tie.After-letter (search)).letter in
     let r = (the tie.After-rest (search)).rest in
-    let f = (the tie.After-timer-fault (search)).timer-fault in
-    rw (sym k.ensures ∙ (the tie.Then8 (search)).if8.taken) (f.ensures ∙ rw r.ensures)
-
-number-last-requires-4 : tie.Need-number-last-requires-4
-number-last-requires-4 c κs = search rules
-
-returns-9 : tie.Need-returns-9
-unfolding fields_fault
-returns-9 c =
-    let k = (the tie.After-letter (search)).letter in
-    let r = (the tie.After-rest (search)).rest in
     let f = (the tie.After-number-last4 (search)).number-last4 in
-    rw (sym k.ensures ∙ (the tie.Then9 (search)).if9.taken) (f.ensures ∙ rw r.ensures)
+    rw (sym k.ensures ∙ (the tie.Then8 (search)).if8.taken) (f.ensures ∙ rw r.ensures)
 
 letter-fault-requires : tie.Need-letter-fault-requires
 letter-fault-requires c κs = search rules
 
-returns-10 : tie.Need-returns-10
+returns-9 : tie.Need-returns-9
 unfolding fields_fault
-returns-10 c =
+returns-9 c =
     let l = (the tie.Start (search)).args.line.now in
     let k = (the tie.After-letter (search)).letter.ensures in
     let f = (the tie.After-letter-fault (search)).letter-fault in
@@ -127,9 +117,8 @@ returns-10 c =
       ne_eqb (letter l) 68 (λ e. (the tie.Else4 (search)).if4.left (k ∙ e)),
       ne_eqb (letter l) 85 (λ e. (the tie.Else5 (search)).if5.left (k ∙ e)),
       ne_eqb (letter l) 86 (λ e. (the tie.Else6 (search)).if6.left (k ∙ e)),
-      ne_eqb (letter l) 79 (λ e. (the tie.Else7 (search)).if7.left (k ∙ e)),
-      ne_eqb (letter l) 84 (λ e. (the tie.Else8 (search)).if8.left (k ∙ e)),
-      ne_eqb (letter l) 82 (λ e. (the tie.Else9 (search)).if9.left (k ∙ e)),
+      ne_eqb (letter l) 84 (λ e. (the tie.Else7 (search)).if7.left (k ∙ e)),
+      ne_eqb (letter l) 82 (λ e. (the tie.Else8 (search)).if8.left (k ∙ e)),
     ) (f.ensures ∙ ap letter_fault k)
 
 pub fields-fault-spec : {M : Type 1} → statement M
@@ -148,13 +137,11 @@ fields-fault-spec =
     returns-4
     number-last-requires-3
     returns-5
-    alone-fault-requires
+    screen-fault-requires
     returns-6
-    alone-fault-requires-2
-    returns-7
     timer-fault-requires
-    returns-8
+    returns-7
     number-last-requires-4
-    returns-9
+    returns-8
     letter-fault-requires
-    returns-10)
+    returns-9)

@@ -35,11 +35,7 @@ returns-7 c = rw c.if7.true
 
 returns-8 : tie.Need-returns-8
 unfolding is_letter
-returns-8 c = rw c.if8.true
-
-returns-9 : tie.Need-returns-9
-unfolding is_letter
-returns-9 c =
+returns-8 c =
     let a = the tie.Else1 (search) in
     let b = the tie.Else2 (search) in
     let d = the tie.Else3 (search) in
@@ -47,7 +43,6 @@ returns-9 c =
     let f = the tie.Else5 (search) in
     let g = the tie.Else6 (search) in
     let h = the tie.Else7 (search) in
-    let i = the tie.Else8 (search) in
     rw (
       ne_eqb _ 78 a.if1.left,
       ne_eqb _ 65 b.if2.left,
@@ -55,9 +50,8 @@ returns-9 c =
       ne_eqb _ 68 e.if4.left,
       ne_eqb _ 85 f.if5.left,
       ne_eqb _ 86 g.if6.left,
-      ne_eqb _ 79 h.if7.left,
-      ne_eqb _ 84 i.if8.left,
+      ne_eqb _ 84 h.if7.left,
     )
 
 pub is-letter-spec : {M : Type 1} → statement M
-is-letter-spec = tie.close (tie.spec returns returns-2 returns-3 returns-4 returns-5 returns-6 returns-7 returns-8 returns-9)
+is-letter-spec = tie.close (tie.spec returns returns-2 returns-3 returns-4 returns-5 returns-6 returns-7 returns-8)

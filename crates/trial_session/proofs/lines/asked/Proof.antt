@@ -31,9 +31,6 @@ enum-told-7 c = search rules
 enum-told-8 : tie.Need-enum-told-8
 enum-told-8 c = search rules
 
-enum-told-9 : tie.Need-enum-told-9
-enum-told-9 c = search rules
-
 returns : tie.Need-returns
 unfolding asked
 returns c = rw c.before.before.line.given.1
@@ -70,10 +67,6 @@ returns-9 : tie.Need-returns-9
 unfolding asked
 returns-9 c = rw c.enum-told8.given.1
 
-returns-10 : tie.Need-returns-10
-unfolding asked
-returns-10 c = rw c.enum-told9.given.1
-
 pub asked-spec : {M : Type 1} → statement M
 asked-spec =
     tie.close
@@ -87,7 +80,6 @@ asked-spec =
     enum-told-6
     enum-told-7
     enum-told-8
-    enum-told-9
     returns
     returns-2
     returns-3
@@ -96,5 +88,4 @@ asked-spec =
     returns-6
     returns-7
     returns-8
-    returns-9
-    returns-10)
+    returns-9)

@@ -24,14 +24,13 @@ lent l = search
 abbrev before_lent : tie.After-answer-front-arg7 → tie.After-asked
 before_lent l = search
 
-blocks-sized : (l : tie.After-answer-front-arg7) → SizedBlocks array_blocks (blocks_of (start (before_lent l)).args.hashes.now (start (before_lent l)).args.parents.now (start (before_lent l)).args.sequences.now (start (before_lent l)).args.counts.now (start (before_lent l)).args.flags.now (start (before_lent l)).args.map.now)
+blocks-sized : (l : tie.After-answer-front-arg7) → SizedBlocks array_blocks (blocks_of (start (before_lent l)).args.hashes.now (start (before_lent l)).args.parents.now (start (before_lent l)).args.sequences.now (start (before_lent l)).args.counts.now (start (before_lent l)).args.flags.now)
 blocks-sized l = record {
   hashes = search rules;
   parents = search rules;
   sequences = search rules;
   counts = search rules;
   flags = search rules;
-  map = search rules;
 }
 
 heads-sized : (l : tie.After-answer-front) → SizedHeads array_heads (heads_of (start (sizes l)).args.tips.now (start (sizes l)).args.tails.now (start (sizes l)).args.missing.now (start (sizes l)).args.requested.now (start (sizes l)).args.arrivals.now (start (sizes l)).args.connected.now)

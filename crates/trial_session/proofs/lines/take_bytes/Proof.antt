@@ -14,13 +14,13 @@ use Rattle.trial_session.proofs.lines.take_bytes.Statement.{statement}
 use Rattle.trial_session.proofs.lines.take_bytes.Tie as tie
 
 abbrev invariant-loop : tie.invariant-loop
-invariant-loop hashes₀ parents₀ sequences₀ counts₀ flags₀ map₀ tips₀ tails₀ missing₀ requested₀ arrivals₀ connected₀ line₀ bytes most out₀ n printed₀ i₀ hashes parents sequences counts flags map tips tails missing requested arrivals connected line out printed i =
-    let was = held_of (tables_of hashes₀ parents₀ sequences₀ counts₀ flags₀ map₀ tips₀ tails₀ missing₀ requested₀ arrivals₀ connected₀) line₀ printed₀.trial in
-    let h = held_of (tables_of hashes parents sequences counts flags map tips tails missing requested arrivals connected) line printed.trial in
+invariant-loop hashes₀ parents₀ sequences₀ counts₀ flags₀ tips₀ tails₀ missing₀ requested₀ arrivals₀ connected₀ line₀ bytes most out₀ n printed₀ i₀ hashes parents sequences counts flags tips tails missing requested arrivals connected line out printed i =
+    let was = held_of (tables_of hashes₀ parents₀ sequences₀ counts₀ flags₀ tips₀ tails₀ missing₀ requested₀ arrivals₀ connected₀) line₀ printed₀.trial in
+    let h = held_of (tables_of hashes parents sequences counts flags tips tails missing requested arrivals connected) line printed.trial in
     Turned i n (length out ≡ length out₀) (Comes (held_fed was (take i bytes)) (fed (session_in was) (take i bytes)) out₀ 0 h out printed.at)
 
 abbrev decreases-loop : tie.decreases-loop
-decreases-loop hashes₀ parents₀ sequences₀ counts₀ flags₀ map₀ tips₀ tails₀ missing₀ requested₀ arrivals₀ connected₀ line₀ bytes most out₀ n printed₀ i₀ hashes parents sequences counts flags map tips tails missing requested arrivals connected line out printed i = n - i
+decreases-loop hashes₀ parents₀ sequences₀ counts₀ flags₀ tips₀ tails₀ missing₀ requested₀ arrivals₀ connected₀ line₀ bytes most out₀ n printed₀ i₀ hashes parents sequences counts flags tips tails missing requested arrivals connected line out printed i = n - i
 
 abbrev turn : tie.After-take-byte invariant-loop decreases-loop → tie.In-loop invariant-loop decreases-loop
 turn c = search

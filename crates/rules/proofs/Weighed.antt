@@ -25,10 +25,10 @@ use Rattle.rules.proofs.Demand3.{demand-3}
 
 -- ---- the highest of a list
 
-highest-none : (sequences l : List ℕ) (j : ℕ) → Among j l → sequence_at sequences j ≤ highest sequences l
+highest-none : (sequences : List ℕ) (j : ℕ) (l : List ℕ) → Among j l → sequence_at sequences j ≤ highest sequences l
 unfolding highest
-highest-none sequences l j (first k) = omega arith
-highest-none sequences l j (further x k among) = omega (arith, highest-none sequences k j among)
+highest-none sequences j l (first k) = omega arith
+highest-none sequences j l (further x k among) = omega (arith, highest-none sequences j k among)
 
 highest-one : (sequences l : List ℕ) → 0 < length l → (j : ℕ) × Among j l × (sequence_at sequences j ≡ highest sequences l)
 unfolding highest
@@ -96,7 +96,7 @@ under-any s e i o =
       answers = rw (e, there, highest-marked t.parents t.sequences i real (none-empty t sh) there (omega arith)) refl;
       of_marked = record {
         one = highest-one t.sequences (marked s i) (some-marked t.parents t.sequences i there within);
-        none = λ j. highest-none t.sequences (marked s i) j;
+        none = λ j. highest-none t.sequences j (marked s i);
       };
       as_marked = λ off. number-marked t.parents t.sequences i real (none-empty t sh) there (omega arith) (λ level a b.
           split (on_level t.parents t.sequences i level i)

@@ -1,7 +1,8 @@
 -- `Inserts` (specs/Promises.antt) leaves out no place where a head is inserted.
-use mathlib.Core.Path.{◌≡◌, refl, ◌∙◌}
+use mathlib.Core.Path.{◌≡◌, refl, ap, ◌∙◌}
 use mathlib.Core.Logic.{◌⊎◌, inl, inr}
 use mathlib.Core.List.{List}
+use mathlib.Core.Option.{Option, some}
 use Prim.Native.Nat.{ℕ, suc}
 use native.Mathlib.Omega.{arith}
 use Rattle.rules.specs.Common.{in_order}
@@ -35,14 +36,19 @@ module _ (s : State) (q : ℕ) (hash previous : List ℕ) (arrival i : ℕ) wher
   unfolding step
   at_slot e = rw (admit-slot s q hash previous arrival i e).1 refl
 
+  from_parent : (p : ℕ) → parent_found s q previous ≡ some p
+      → admit_at s i q hash previous arrival ≡ refresh_tails (admitted (inserted s i q hash previous) i (some p) previous arrival s.active_head)
+  unfolding admit_at
+  from_parent p m = ap (λ (o : Option ℕ). refresh_tails (admitted (inserted s i q hash previous) i o previous arrival s.active_head)) m
+
   -- an accepted admit inserts its head into tables of `Inserts`, or moves one up
   pub admit-inserts : (step s call).answer ≡ slot i → Inserted (step s call).after.tables ⊎ MovedUp (step s call).after.tables
   unfolding admit_at admitted place_head admission.fork
   admit-inserts e = option? (parent_found s q previous)
       (λ n. inl (_, root q hash previous arrival i e n, at_slot e ∙ rw n refl))
       (λ p m. option? (slot_of_head s.tables.heads.tips p)
-      (λ n. inl (_, fork q hash previous arrival i p e m n, at_slot e ∙ rw (m, n, place_head) refl))
-      (λ k n. inr (k, at_slot e ∙ rw (m, n, place_head) refl)))
+      (λ n. inl (_, fork q hash previous arrival i p e m n, at_slot e ∙ (from_parent p m ∙ rw (n, place_head) refl)))
+      (λ k n. inr (k, at_slot e ∙ (from_parent p m ∙ rw (n, place_head) refl))))
 
 module _ (s : State) (now : ℕ) where
   abbrev half : ℕ → Tables

@@ -1,6 +1,6 @@
 // Admission: the new block's head, then the late tails. Port of `on_block_admitted` of src/chain_heads.rs.
 ghost use Rattle.std.specs.Prelude.{◌≡◌};
-ghost use Rattle.rules.specs.Records.{before, after};
+ghost use Rattle.rules.specs.Records.{tables_of};
 ghost use Rattle.rules.specs.Admission.{admitted};
 ghost use Rattle.rules.specs.Answers.{slot_found};
 
@@ -29,8 +29,10 @@ pub fn on_block_admitted(
     arrival: u64,
     active: BlockSlot,
 )
-    ensures { after hashes parents sequences counts flags tips tails missing requested arrivals connected
-        ≡ admitted (before hashes parents sequences counts flags tips tails missing requested arrivals connected) block.0
+    ensures { tables_of hashes.new parents.new sequences.new counts.new flags.new
+        tips.new tails.new missing.new requested.new arrivals.new connected.new
+        ≡ admitted (tables_of hashes.old parents.old sequences.old counts.old flags.old
+        tips.old tails.old missing.old requested.old arrivals.old connected.old) block.0
         (slot_found parent) previous.now arrival active.0 }
 {
     adjust_head_ref_count(sequences, counts, block, 1);

@@ -1,6 +1,6 @@
 // Admit.
 ghost use Rattle.std.specs.Prelude.{◌≡◌};
-ghost use Rattle.rules.specs.Records.{before, after};
+ghost use Rattle.rules.specs.Records.{tables_of};
 ghost use Rattle.rules.specs.Answers.{admitted_said};
 ghost use Rattle.rules.specs.Calls.{state_of, admit as admit_rule, Does};
 
@@ -29,9 +29,11 @@ pub fn admit(
     arrival: u64,
 ) -> Admitted
     ensures { Does (admitted_said result)
-        (after hashes parents sequences counts flags tips tails missing requested arrivals connected)
+        (tables_of hashes.new parents.new sequences.new counts.new flags.new
+        tips.new tails.new missing.new requested.new arrivals.new connected.new)
         (admit_rule
-        (state_of (before hashes parents sequences counts flags tips tails missing requested arrivals connected) active.0)
+        (state_of (tables_of hashes.old parents.old sequences.old counts.old flags.old
+        tips.old tails.old missing.old requested.old arrivals.old connected.old) active.0)
         sequence.0 hash.now previous.now arrival) }
 {
     match reply(

@@ -1,7 +1,7 @@
 // What admit answers, read off before anything is written.
 ghost use Rattle.std.specs.Prelude.{◌≡◌, ℕ};
 ghost use Rattle.rules.specs.Common.{is_some};
-ghost use Rattle.rules.specs.Records.{before};
+ghost use Rattle.rules.specs.Records.{tables_of};
 ghost use Rattle.rules.specs.BlockTable.{find as find_rule};
 ghost use Rattle.rules.specs.Answers.{admitted_said};
 ghost use Rattle.rules.specs.Calls.{state_of, admit as admit_rule};
@@ -39,7 +39,8 @@ pub fn reply(
 ) -> Admitted
     ensures { (a arrival : ℕ)
         → admitted_said result
-        ≡ (admit_rule (state_of (before hashes parents sequences counts flags tips tails missing requested arrivals connected) a)
+        ≡ (admit_rule (state_of (tables_of hashes.now parents.now sequences.now counts.now flags.now
+        tips.now tails.now missing.now requested.now arrivals.now connected.now) a)
         sequence.0 hash.now previous.now arrival).answer }
 {
     if !is_shaped(

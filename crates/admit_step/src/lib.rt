@@ -1,6 +1,6 @@
 // An admitted block: it is inserted, then the heads are told.
 ghost use Rattle.std.specs.Prelude.{◌≡◌};
-ghost use Rattle.rules.specs.Records.{before, after};
+ghost use Rattle.rules.specs.Records.{tables_of};
 ghost use Rattle.rules.specs.Answers.{slot_found};
 ghost use Rattle.rules.specs.Calls.{state_of, slot_or_none, admit_at};
 
@@ -39,8 +39,10 @@ pub fn admit_at(
     previous: [u8; 32],
     arrival: u64,
 )
-    ensures { after hashes parents sequences counts flags tips tails missing requested arrivals connected
-        ≡ admit_at (state_of (before hashes parents sequences counts flags tips tails missing requested arrivals connected) active.0)
+    ensures { tables_of hashes.new parents.new sequences.new counts.new flags.new
+        tips.new tails.new missing.new requested.new arrivals.new connected.new
+        ≡ admit_at (state_of (tables_of hashes.old parents.old sequences.old counts.old flags.old
+        tips.old tails.old missing.old requested.old arrivals.old connected.old) active.0)
         slot.0 sequence.0 own previous arrival }
 {
     let parent = find_parent(hashes, sequences, sequence, previous);

@@ -1,7 +1,7 @@
 // The caches of heads with no arriving block: of one head, and of all.
 ghost use Rattle.std.specs.Prelude.{◌≡◌};
 ghost use Rattle.rules.specs.Hashes.{zero_hash};
-ghost use Rattle.rules.specs.Records.{NONE, caches_before, caches_after};
+ghost use Rattle.rules.specs.Records.{NONE, caches_of};
 ghost use Rattle.rules.specs.Caches.{recompute, refresh_head, recompute_used, recompute_all};
 
 use caches::recompute_caches;
@@ -21,9 +21,9 @@ fn recompute_alone(
     connected: &mut [u8],
     head: HeadSlot,
 )
-    ensures { caches_after tails missing requested connected
+    ensures { caches_of tails.new missing.new requested.new connected.new
         ≡ recompute parents.now sequences.now flags.now tips.now
-        (caches_before tails missing requested connected) head.0 NONE zero_hash }
+        (caches_of tails.old missing.old requested.old connected.old) head.0 NONE zero_hash }
 {
     let zeros = [0u8; 32];
     recompute_caches(
@@ -53,9 +53,9 @@ pub fn refresh_head(
     connected: &mut [u8],
     tip: BlockSlot,
 )
-    ensures { caches_after tails missing requested connected
+    ensures { caches_of tails.new missing.new requested.new connected.new
         ≡ refresh_head parents.now sequences.now flags.now tips.now
-        (caches_before tails missing requested connected) tip.0 }
+        (caches_of tails.old missing.old requested.old connected.old) tip.0 }
 {
     match slot_of_head(tips, tip) {
         FoundHead::At(head) => recompute_alone(
@@ -76,9 +76,9 @@ fn recompute_used(
     connected: &mut [u8],
     head: HeadSlot,
 )
-    ensures { caches_after tails missing requested connected
+    ensures { caches_of tails.new missing.new requested.new connected.new
         ≡ recompute_used parents.now sequences.now flags.now tips.now head.0
-        (caches_before tails missing requested connected) }
+        (caches_of tails.old missing.old requested.old connected.old) }
 {
     if is_used(tips, head) {
         recompute_alone(
@@ -98,9 +98,9 @@ pub fn recompute_all_caches(
     requested: &mut [u64],
     connected: &mut [u8],
 )
-    ensures { caches_after tails missing requested connected
+    ensures { caches_of tails.new missing.new requested.new connected.new
         ≡ recompute_all parents.now sequences.now flags.now tips.now
-        (caches_before tails missing requested connected) }
+        (caches_of tails.old missing.old requested.old connected.old) }
 {
     let m = slots(tips);
     let mut k: u32 = 0;

@@ -1,6 +1,6 @@
 // A block inserted, deleted, or given its parent.
 ghost use Rattle.std.specs.Prelude.{◌≡◌};
-ghost use Rattle.rules.specs.Records.{occupied, put_block, blocks_before, blocks_after};
+ghost use Rattle.rules.specs.Records.{occupied, put_block, blocks_of};
 ghost use Rattle.rules.specs.BlockTable.{delete as delete_rule, insertion, insert as insert_rule, insert_at, resolve_parent, set_parent};
 ghost use Rattle.rules.specs.Answers.{insertion_made};
 
@@ -17,8 +17,8 @@ fn put_block(
     slot: BlockSlot,
     block: Block,
 )
-    ensures { blocks_after hashes parents sequences counts flags
-        ≡ put_block (blocks_before hashes parents sequences counts flags) slot.0 block }
+    ensures { blocks_of hashes.new parents.new sequences.new counts.new flags.new
+        ≡ put_block (blocks_of hashes.old parents.old sequences.old counts.old flags.old) slot.0 block }
 {
     let hash = block.hash;
     put_hash(hashes, slot.0, hash);
@@ -38,8 +38,8 @@ pub fn insert_at(
     slot: BlockSlot,
     block: Block,
 )
-    ensures { blocks_after hashes parents sequences counts flags
-        ≡ insert_at (blocks_before hashes parents sequences counts flags) slot.0 block }
+    ensures { blocks_of hashes.new parents.new sequences.new counts.new flags.new
+        ≡ insert_at (blocks_of hashes.old parents.old sequences.old counts.old flags.old) slot.0 block }
 {
     if slot.0 < slots(sequences) {
         put_block(hashes, parents, sequences, counts, flags, slot, block);
@@ -56,7 +56,8 @@ pub fn insert(
     block: Block,
 ) -> Inserted
     ensures { (insertion_made result ≡ insertion sequences.old block)
-        × (blocks_after hashes parents sequences counts flags ≡ insert_rule (blocks_before hashes parents sequences counts flags) block) }
+        × (blocks_of hashes.new parents.new sequences.new counts.new flags.new ≡ insert_rule
+        (blocks_of hashes.old parents.old sequences.old counts.old flags.old) block) }
 {
     if block.sequence.0 == Sequence::NONE_REF.0 {
         return Inserted::ReservedSequence;
@@ -78,8 +79,8 @@ pub fn delete(
     slot: BlockSlot,
 ) -> bool
     ensures { (result ≡ occupied sequences.old slot.0)
-        × (blocks_after hashes parents sequences counts flags
-        ≡ delete_rule (blocks_before hashes parents sequences counts flags) slot.0) }
+        × (blocks_of hashes.new parents.new sequences.new counts.new flags.new
+        ≡ delete_rule (blocks_of hashes.old parents.old sequences.old counts.old flags.old) slot.0) }
 {
     if !is_occupied(sequences, slot) {
         return false;

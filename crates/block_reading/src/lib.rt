@@ -1,6 +1,6 @@
 // What a block holds: the record, its count and its status.
 ghost use Rattle.std.specs.Prelude.{◌≡◌};
-ghost use Rattle.rules.specs.Records.{status_number, status_of, blocks_before};
+ghost use Rattle.rules.specs.Records.{status_number, status_of, blocks_of};
 ghost use Rattle.rules.specs.BlockTable.{get as get_rule, head_ref_count, status_at};
 ghost use Rattle.rules.specs.Answers.{got_block, count_got, status_got};
 
@@ -17,7 +17,8 @@ pub fn get(
     flags: &[u8],
     slot: BlockSlot,
 ) -> Got
-    ensures { result ≡ got_block (get_rule (blocks_before hashes parents sequences counts flags) slot.0) }
+    ensures { result ≡ got_block (get_rule
+        (blocks_of hashes.now parents.now sequences.now counts.now flags.now) slot.0) }
 {
     if !is_occupied(sequences, slot) {
         return Got {

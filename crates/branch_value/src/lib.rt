@@ -5,7 +5,7 @@ ghost use Rattle.rules.specs.Rank.{outranks as outranks_rule};
 use cells::hash_less;
 
 // What a branch is ranked by: its value, its length and its hash.
-#[derive(Drop)]
+#[derive(Clone, Copy)]
 pub struct Rank {
     pub value: u64,
     pub len: u16,

@@ -1,6 +1,6 @@
 // The caches of a head: flag, anchor, missing hash and request time, from the walk of its tip.
 ghost use Rattle.std.specs.Prelude.{◌≡◌};
-ghost use Rattle.rules.specs.Records.{caches_before, caches_after};
+ghost use Rattle.rules.specs.Records.{caches_of};
 ghost use Rattle.rules.specs.Caches.{connection_kept, tail_kept, recompute};
 
 use anchor::locate_anchor;
@@ -17,8 +17,8 @@ fn keep_connection(
     head: HeadSlot,
     at: BlockSlot,
 )
-    ensures { caches_after tails missing requested connected
-        ≡ connection_kept (caches_before tails missing requested connected) head.0 at.0 }
+    ensures { caches_of tails.new missing.new requested.new connected.new
+        ≡ connection_kept (caches_of tails.old missing.old requested.old connected.old) head.0 at.0 }
 {
     let bits = with_bit0(byte_at(connected, head.0), true);
     put_word(tails, head.0, at.0);
@@ -38,8 +38,9 @@ fn keep_tail(
     arriving: BlockSlot,
     previous: &[u8],
 )
-    ensures { caches_after tails missing requested connected
-        ≡ tail_kept tips.now (caches_before tails missing requested connected) head.0 at.0 arriving.0
+    ensures { caches_of tails.new missing.new requested.now connected.new
+        ≡ tail_kept tips.now
+        (caches_of tails.old missing.old requested.now connected.old) head.0 at.0 arriving.0
         previous.now }
 {
     let bits = with_bit0(byte_at(connected, head.0), false);
@@ -65,9 +66,9 @@ pub fn recompute_caches(
     arriving: BlockSlot,
     previous: &[u8],
 )
-    ensures { caches_after tails missing requested connected
+    ensures { caches_of tails.new missing.new requested.new connected.new
         ≡ recompute parents.now sequences.now flags.now tips.now
-        (caches_before tails missing requested connected) head.0 arriving.0 previous.now }
+        (caches_of tails.old missing.old requested.old connected.old) head.0 arriving.0 previous.now }
 {
     let tip = BlockSlot(word_at(tips, head.0));
     match locate_anchor(parents, sequences, flags, tip) {

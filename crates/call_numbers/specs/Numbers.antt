@@ -3,7 +3,7 @@ use Rattle.std.specs.Prelude.{◌≡◌, List, ℕ, ◌*◌, eqb, length, set}
 use Rattle.std.proofs.Math.Option.{Option, none, some}
 use Rattle.std.proofs.lemmas.List.Edits.{sets}
 use denote.Triple.Both.{Both}
-use Rattle.std.specs.Borrow.{Bor}
+use denote.MutBor.{MutBor}
 use Rattle.rules.specs.Common.{if◌then◌else◌}
 use Rattle.rules.specs.Kinds.{BlockSlot, Time}
 use Rattle.rules.specs.Records.{NONE, Tables, Lent}
@@ -134,7 +134,7 @@ pub record Hangs (number : ℕ) (highest : Lent) (left : Tables) (rule : Stepped
   pub leaves : left ≡ rule.after.tables
 
 -- and the records of a screen, in a lent list of them
-pub record Shows (number : ℕ) (list : Both (Bor (List HeadRow)) (Bor (List HeadRow))) (left : Tables) (rule : Stepped) : Type 0 where
+pub record Shows (number : ℕ) (list : Both (MutBor (List HeadRow)) (MutBor (List HeadRow))) (left : Tables) (rule : Stepped) : Type 0 where
   pub answers : number ≡ answer_number rule.answer
   pub shows : list.exit.now ≡ rows_to rule.answer list.entry.now
   pub leaves : left ≡ rule.after.tables

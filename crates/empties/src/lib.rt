@@ -1,6 +1,6 @@
 // Tables emptied: each cell holds what an empty record has there.
 ghost use Rattle.std.specs.Prelude.{◌≡◌, length, replicate};
-ghost use Rattle.rules.specs.Records.{blocks_emptied, heads_emptied, blocks_before, blocks_after, heads_before, heads_after};
+ghost use Rattle.rules.specs.Records.{blocks_emptied, heads_emptied, blocks_of, heads_of};
 
 use rules::{BlockSlot, Sequence};
 
@@ -44,8 +44,8 @@ pub fn empty_heads(
     arrivals: &mut [u64],
     connected: &mut [u8],
 )
-    ensures { heads_after tips tails missing requested arrivals connected
-        ≡ heads_emptied (heads_before tips tails missing requested arrivals connected) }
+    ensures { heads_of tips.new tails.new missing.new requested.new arrivals.new connected.new
+        ≡ heads_emptied (heads_of tips.old tails.old missing.old requested.old arrivals.old connected.old) }
 {
     fill_words(tips, BlockSlot::NONE_REF.0);
     fill_words(tails, BlockSlot::NONE_REF.0);
@@ -63,8 +63,8 @@ pub fn empty_blocks(
     counts: &mut [u8],
     flags: &mut [u8],
 )
-    ensures { blocks_after hashes parents sequences counts flags
-        ≡ blocks_emptied (blocks_before hashes parents sequences counts flags) }
+    ensures { blocks_of hashes.new parents.new sequences.new counts.new flags.new
+        ≡ blocks_emptied (blocks_of hashes.old parents.old sequences.old counts.old flags.old) }
 {
     fill_bytes(hashes, 0);
     fill_words(parents, BlockSlot::NONE_REF.0);

@@ -2,7 +2,7 @@
 ghost use Rattle.std.specs.Prelude.{◌≡◌, true, not, ◌&&◌, ◌||◌, eqb, ltb};
 ghost use Rattle.rules.specs.Common.{if◌then◌else◌};
 ghost use Rattle.rules.specs.Hashes.{hash_at, hash_less};
-ghost use Rattle.rules.specs.Records.{NONE, slots_of, tip_at, blocks_before, blocks_after, before, after};
+ghost use Rattle.rules.specs.Records.{NONE, slots_of, tip_at, blocks_of, tables_of};
 ghost use Rattle.rules.specs.Answers.{slot_found, head_found};
 ghost use Rattle.rules.specs.Eviction.{victim, evict_from, evict as evict_rule, evict_one};
 ghost use Rattle.eviction.specs.Visit.{Visits};
@@ -102,8 +102,9 @@ fn visit(
     flags: &mut [u8],
     slot: BlockSlot,
 ) -> Found
-    ensures { Visits (blocks_before hashes parents sequences counts flags) slot.0 (slot_found result)
-        (blocks_after hashes parents sequences counts flags) }
+    ensures { Visits
+        (blocks_of hashes.old parents.old sequences.old counts.old flags.old) slot.0 (slot_found result)
+        (blocks_of hashes.new parents.new sequences.new counts.new flags.new) }
 {
     let parent = BlockSlot(word_at(parents, slot.0));
     let kept = is_on_active_chain(flags, slot);
@@ -131,8 +132,9 @@ fn evict_from(
     flags: &mut [u8],
     tip: BlockSlot,
 )
-    ensures { blocks_after hashes parents sequences counts flags
-        ≡ evict_from (slots_of sequences.old) (blocks_before hashes parents sequences counts flags) tip.0 }
+    ensures { blocks_of hashes.new parents.new sequences.new counts.new flags.new
+        ≡ evict_from (slots_of sequences.old)
+        (blocks_of hashes.old parents.old sequences.old counts.old flags.old) tip.0 }
 {
     let n = slots(sequences);
     let mut current = tip.0;
@@ -172,8 +174,10 @@ fn evict(
     connected: &mut [u8],
     head: HeadSlot,
 )
-    ensures { after hashes parents sequences counts flags tips tails missing requested arrivals connected
-        ≡ evict_rule (before hashes parents sequences counts flags tips tails missing requested arrivals connected) head.0 }
+    ensures { tables_of hashes.new parents.new sequences.new counts.new flags.new
+        tips.new tails.new missing.new requested.new arrivals.new connected.new
+        ≡ evict_rule (tables_of hashes.old parents.old sequences.old counts.old flags.old
+        tips.old tails.old missing.old requested.old arrivals.old connected.old) head.0 }
 {
     let tip = BlockSlot(word_at(tips, head.0));
     evict_from(hashes, parents, sequences, counts, flags, tip);
@@ -205,8 +209,10 @@ pub fn evict_one(
     connected: &mut [u8],
     active: BlockSlot,
 )
-    ensures { after hashes parents sequences counts flags tips tails missing requested arrivals connected
-        ≡ evict_one (before hashes parents sequences counts flags tips tails missing requested arrivals connected) active.0 }
+    ensures { tables_of hashes.new parents.new sequences.new counts.new flags.new
+        tips.new tails.new missing.new requested.new arrivals.new connected.new
+        ≡ evict_one (tables_of hashes.old parents.old sequences.old counts.old flags.old
+        tips.old tails.old missing.old requested.old arrivals.old connected.old) active.0 }
 {
     match select_eviction_victim(hashes, sequences, tips, active) {
         FoundHead::Nothing => {}

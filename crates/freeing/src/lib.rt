@@ -1,6 +1,6 @@
 // Listed blocks become empty slots.
 ghost use Rattle.std.specs.Prelude.{◌≡◌};
-ghost use Rattle.rules.specs.Records.{blocks_before, blocks_after};
+ghost use Rattle.rules.specs.Records.{blocks_of};
 ghost use Rattle.rules.specs.Removal.{free_all};
 
 use block_changes::delete;
@@ -15,8 +15,8 @@ pub fn free_all(
     flags: &mut [u8],
     deleted: &[u32],
 )
-    ensures { blocks_after hashes parents sequences counts flags
-        ≡ free_all deleted.now (blocks_before hashes parents sequences counts flags) }
+    ensures { blocks_of hashes.new parents.new sequences.new counts.new flags.new
+        ≡ free_all deleted.now (blocks_of hashes.old parents.old sequences.old counts.old flags.old) }
 {
     let mut k: usize = 0;
     while k < deleted.len() {

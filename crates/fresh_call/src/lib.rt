@@ -1,6 +1,6 @@
 // Fresh: the covered core, on the record's number.
 ghost use Rattle.std.specs.Prelude.{◌≡◌};
-ghost use Rattle.rules.specs.Records.{before, after};
+ghost use Rattle.rules.specs.Records.{tables_of};
 ghost use Rattle.rules.specs.Answers.{outcome_said};
 ghost use Rattle.rules.specs.Calls.{state_of, fresh as fresh_rule, Sets};
 
@@ -24,9 +24,11 @@ pub fn fresh(
     active: BlockSlot,
 ) -> Recorded
     ensures { Sets (outcome_said result.outcome) result.active.0
-        (after hashes parents sequences counts flags tips tails missing requested arrivals connected)
+        (tables_of hashes.new parents.new sequences.new counts.new flags.new
+        tips.new tails.new missing.new requested.new arrivals.new connected.new)
         (fresh_rule
-        (state_of (before hashes parents sequences counts flags tips tails missing requested arrivals connected) active.0)) }
+        (state_of (tables_of hashes.old parents.old sequences.old counts.old flags.old
+        tips.old tails.old missing.old requested.old arrivals.old connected.old) active.0)) }
 {
     if !is_shaped(
         hashes, parents, sequences, counts, flags, tips, tails, missing, requested, arrivals,

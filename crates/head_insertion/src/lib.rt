@@ -1,6 +1,6 @@
 // A head inserted: in the lowest empty slot, and a full head table evicts first.
 ghost use Rattle.std.specs.Prelude.{◌≡◌};
-ghost use Rattle.rules.specs.Records.{put_head, heads_before, heads_after, before, after};
+ghost use Rattle.rules.specs.Records.{put_head, heads_of, tables_of};
 ghost use Rattle.rules.specs.Caches.{head_recomputed};
 ghost use Rattle.rules.specs.Admission.{new_head, seat_head, make_room, insert_head};
 
@@ -26,9 +26,10 @@ fn seat_at(
     previous: &[u8],
     arrival: u64,
 )
-    ensures { heads_after tips tails missing requested arrivals connected
+    ensures { heads_of tips.new tails.new missing.new requested.new arrivals.new connected.new
         ≡ head_recomputed parents.now sequences.now flags.now
-        (put_head (heads_before tips tails missing requested arrivals connected) slot.0 (new_head tip.0 arrival)) slot.0
+        (put_head (heads_of
+        tips.old tails.old missing.old requested.old arrivals.old connected.old) slot.0 (new_head tip.0 arrival)) slot.0
         arriving.0 previous.now }
 {
     let head = Head {
@@ -66,8 +67,10 @@ fn seat_head(
     previous: &[u8],
     arrival: u64,
 )
-    ensures { after hashes parents sequences counts flags tips tails missing requested arrivals connected
-        ≡ seat_head (before hashes parents sequences counts flags tips tails missing requested arrivals connected) tip.0 arriving.0
+    ensures { tables_of hashes.now parents.now sequences.now counts.now flags.now
+        tips.new tails.new missing.new requested.new arrivals.new connected.new
+        ≡ seat_head (tables_of hashes.now parents.now sequences.now counts.now flags.now
+        tips.old tails.old missing.old requested.old arrivals.old connected.old) tip.0 arriving.0
         previous.now arrival }
 {
     match first_empty(tips) {
@@ -94,8 +97,10 @@ fn make_room(
     connected: &mut [u8],
     active: BlockSlot,
 )
-    ensures { after hashes parents sequences counts flags tips tails missing requested arrivals connected
-        ≡ make_room (before hashes parents sequences counts flags tips tails missing requested arrivals connected) active.0 }
+    ensures { tables_of hashes.new parents.new sequences.new counts.new flags.new
+        tips.new tails.new missing.new requested.new arrivals.new connected.new
+        ≡ make_room (tables_of hashes.old parents.old sequences.old counts.old flags.old
+        tips.old tails.old missing.old requested.old arrivals.old connected.old) active.0 }
 {
     match first_empty(tips) {
         FoundHead::Nothing => evict_one(
@@ -126,8 +131,10 @@ pub fn insert_head(
     arrival: u64,
     active: BlockSlot,
 )
-    ensures { after hashes parents sequences counts flags tips tails missing requested arrivals connected
-        ≡ insert_head (before hashes parents sequences counts flags tips tails missing requested arrivals connected) tip.0 arriving.0
+    ensures { tables_of hashes.new parents.new sequences.new counts.new flags.new
+        tips.new tails.new missing.new requested.new arrivals.new connected.new
+        ≡ insert_head (tables_of hashes.old parents.old sequences.old counts.old flags.old
+        tips.old tails.old missing.old requested.old arrivals.old connected.old) tip.0 arriving.0
         previous.now arrival active.0 }
 {
     make_room(

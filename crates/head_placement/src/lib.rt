@@ -1,7 +1,7 @@
 // The head of a new block: its parent's, moved up, or one more.
 ghost use Rattle.std.specs.Prelude.{◌≡◌};
 ghost use Rattle.std.proofs.Math.Option.{some};
-ghost use Rattle.rules.specs.Records.{before, after};
+ghost use Rattle.rules.specs.Records.{tables_of};
 ghost use Rattle.rules.specs.Admission.{move_up, fork as fork_rule, place_head};
 ghost use Rattle.rules.specs.Answers.{slot_found};
 
@@ -30,8 +30,10 @@ fn move_up(
     previous: &[u8],
     arrival: u64,
 )
-    ensures { after hashes parents sequences counts flags tips tails missing requested arrivals connected
-        ≡ move_up (before hashes parents sequences counts flags tips tails missing requested arrivals connected) slot.0 block.0
+    ensures { tables_of hashes.now parents.now sequences.now counts.now flags.now
+        tips.new tails.new missing.new requested.new arrivals.new connected.new
+        ≡ move_up (tables_of hashes.now parents.now sequences.now counts.now flags.now
+        tips.old tails.old missing.old requested.old arrivals.old connected.old) slot.0 block.0
         previous.now arrival }
 {
     put_word(tips, slot.0, block.0);
@@ -61,8 +63,10 @@ fn fork(
     arrival: u64,
     active: BlockSlot,
 )
-    ensures { after hashes parents sequences counts flags tips tails missing requested arrivals connected
-        ≡ fork_rule (before hashes parents sequences counts flags tips tails missing requested arrivals connected) block.0 parent.0
+    ensures { tables_of hashes.new parents.new sequences.new counts.new flags.new
+        tips.new tails.new missing.new requested.new arrivals.new connected.new
+        ≡ fork_rule (tables_of hashes.old parents.old sequences.old counts.old flags.old
+        tips.old tails.old missing.old requested.old arrivals.old connected.old) block.0 parent.0
         previous.now arrival active.0 }
 {
     adjust_head_ref_count(sequences, counts, parent, 1);
@@ -90,8 +94,10 @@ fn place_above(
     arrival: u64,
     active: BlockSlot,
 )
-    ensures { after hashes parents sequences counts flags tips tails missing requested arrivals connected
-        ≡ place_head (before hashes parents sequences counts flags tips tails missing requested arrivals connected) block.0
+    ensures { tables_of hashes.new parents.new sequences.new counts.new flags.new
+        tips.new tails.new missing.new requested.new arrivals.new connected.new
+        ≡ place_head (tables_of hashes.old parents.old sequences.old counts.old flags.old
+        tips.old tails.old missing.old requested.old arrivals.old connected.old) block.0
         (some parent.0) previous.now arrival active.0 }
 {
     match slot_of_head(tips, parent) {
@@ -126,8 +132,10 @@ pub fn place_head(
     arrival: u64,
     active: BlockSlot,
 )
-    ensures { after hashes parents sequences counts flags tips tails missing requested arrivals connected
-        ≡ place_head (before hashes parents sequences counts flags tips tails missing requested arrivals connected) block.0
+    ensures { tables_of hashes.new parents.new sequences.new counts.new flags.new
+        tips.new tails.new missing.new requested.new arrivals.new connected.new
+        ≡ place_head (tables_of hashes.old parents.old sequences.old counts.old flags.old
+        tips.old tails.old missing.old requested.old arrivals.old connected.old) block.0
         (slot_found parent) previous.now arrival active.0 }
 {
     match parent {

@@ -2,7 +2,7 @@
 // src/chain_heads.rs, with the crates `anchor` to `all_caches`.
 ghost use Rattle.std.specs.Prelude.{◌≡◌, ℕ, eqb};
 ghost use Rattle.rules.specs.Common.{lowest};
-ghost use Rattle.rules.specs.Records.{slots_of, tip_at, used, is_connected, stored, head_count, has_stored_head, put_head, heads_before, heads_after};
+ghost use Rattle.rules.specs.Records.{slots_of, tip_at, used, is_connected, stored, head_count, has_stored_head, put_head, heads_of};
 ghost use Rattle.rules.specs.Caches.{slot_of_head};
 ghost use Rattle.rules.specs.Admission.{first_empty};
 ghost use Rattle.rules.specs.Answers.{head_found};
@@ -106,8 +106,9 @@ pub fn put_head(
     slot: HeadSlot,
     head: Head,
 )
-    ensures { heads_after tips tails missing requested arrivals connected
-        ≡ put_head (heads_before tips tails missing requested arrivals connected) slot.0 head }
+    ensures { heads_of tips.new tails.new missing.new requested.new arrivals.new connected.new
+        ≡ put_head (heads_of
+        tips.old tails.old missing.old requested.old arrivals.old connected.old) slot.0 head }
 {
     let hash = head.missing;
     put_word(tips, slot.0, head.tip.0);

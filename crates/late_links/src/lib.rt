@@ -1,7 +1,7 @@
 // Late tails: blocks that waited for the new one are linked to it.
 ghost use Rattle.std.specs.Prelude.{◌≡◌, suc, eqb, pos};
 ghost use Rattle.rules.specs.Hashes.{hash_at};
-ghost use Rattle.rules.specs.Records.{before, after};
+ghost use Rattle.rules.specs.Records.{tables_of};
 ghost use Rattle.rules.specs.BlockTable.{adjust_counts};
 ghost use Rattle.rules.specs.Admission.{misses as misses_rule, late, joined as joined_rule, link as link_rule, link_late, link_tails};
 
@@ -86,8 +86,10 @@ fn join(
     connected: &mut [u8],
     block: BlockSlot,
 )
-    ensures { after hashes parents sequences counts flags tips tails missing requested arrivals connected
-        ≡ joined_rule (before hashes parents sequences counts flags tips tails missing requested arrivals connected) block.0 }
+    ensures { tables_of hashes.now parents.now sequences.now counts.new flags.now
+        tips.new tails.new missing.new requested.new arrivals.new connected.new
+        ≡ joined_rule (tables_of hashes.now parents.now sequences.now counts.old flags.now
+        tips.old tails.old missing.old requested.old arrivals.old connected.old) block.0 }
 {
     match slot_of_head(tips, block) {
         FoundHead::At(own) => put_head(
@@ -125,8 +127,10 @@ fn link(
     block: BlockSlot,
     head: HeadSlot,
 )
-    ensures { after hashes parents sequences counts flags tips tails missing requested arrivals connected
-        ≡ link_rule (before hashes parents sequences counts flags tips tails missing requested arrivals connected) block.0 head.0 }
+    ensures { tables_of hashes.now parents.new sequences.now counts.new flags.now
+        tips.new tails.new missing.new requested.new arrivals.new connected.new
+        ≡ link_rule (tables_of hashes.now parents.old sequences.now counts.old flags.now
+        tips.old tails.old missing.old requested.old arrivals.old connected.old) block.0 head.0 }
 {
     let tail = BlockSlot(word_at(tails, head.0));
     resolve_parent_ref(parents, tail, block);
@@ -153,9 +157,11 @@ fn link_late(
     hash: [u8; 32],
     head: HeadSlot,
 )
-    ensures { after hashes parents sequences counts flags tips tails missing requested arrivals connected
+    ensures { tables_of hashes.now parents.new sequences.now counts.new flags.now
+        tips.new tails.new missing.new requested.new arrivals.new connected.new
         ≡ link_late block.0 sequence.0 hash head.0
-        (before hashes parents sequences counts flags tips tails missing requested arrivals connected) }
+        (tables_of hashes.now parents.old sequences.now counts.old flags.now
+        tips.old tails.old missing.old requested.old arrivals.old connected.old) }
 {
     if is_late(
         parents, sequences, tips, tails, missing, connected, block, sequence, hash, head,
@@ -184,8 +190,10 @@ pub fn link_tails(
     block: BlockSlot,
     sequence: Sequence,
 )
-    ensures { after hashes parents sequences counts flags tips tails missing requested arrivals connected
-        ≡ link_tails (before hashes parents sequences counts flags tips tails missing requested arrivals connected) block.0
+    ensures { tables_of hashes.now parents.new sequences.now counts.new flags.now
+        tips.new tails.new missing.new requested.new arrivals.new connected.new
+        ≡ link_tails (tables_of hashes.now parents.old sequences.now counts.old flags.now
+        tips.old tails.old missing.old requested.old arrivals.old connected.old) block.0
         sequence.0 (hash_at hashes.now block.0) }
 {
     let hash = hash_at(hashes, block.0);

@@ -1,7 +1,7 @@
 // The late tails are linked, then the heads that missed the new hash are worked out again.
 ghost use Rattle.std.specs.Prelude.{◌≡◌};
 ghost use Rattle.rules.specs.Hashes.{hash_at};
-ghost use Rattle.rules.specs.Records.{blocks_before, heads_before, heads_after, before, after};
+ghost use Rattle.rules.specs.Records.{blocks_of, heads_of, tables_of};
 ghost use Rattle.rules.specs.Admission.{recompute_missed, recompute_missing, resolve_tails};
 
 use blocks::is_occupied;
@@ -27,9 +27,10 @@ fn recompute_missed(
     previous: &[u8],
     head: HeadSlot,
 )
-    ensures { heads_after tips tails missing requested arrivals connected
-        ≡ recompute_missed (blocks_before hashes parents sequences counts flags) block.0 hash previous.now head.0
-        (heads_before tips tails missing requested arrivals connected) }
+    ensures { heads_of tips.now tails.new missing.new requested.new arrivals.now connected.new
+        ≡ recompute_missed
+        (blocks_of hashes.now parents.now sequences.now counts.now flags.now) block.0 hash previous.now head.0
+        (heads_of tips.now tails.old missing.old requested.old arrivals.now connected.old) }
 {
     if misses(tips, missing, connected, hash, head) {
         recompute_caches(
@@ -54,8 +55,10 @@ fn recompute_missing(
     block: BlockSlot,
     previous: &[u8],
 )
-    ensures { after hashes parents sequences counts flags tips tails missing requested arrivals connected
-        ≡ recompute_missing (before hashes parents sequences counts flags tips tails missing requested arrivals connected) block.0
+    ensures { tables_of hashes.now parents.now sequences.now counts.now flags.now
+        tips.now tails.new missing.new requested.new arrivals.now connected.new
+        ≡ recompute_missing (tables_of hashes.now parents.now sequences.now counts.now flags.now
+        tips.now tails.old missing.old requested.old arrivals.now connected.old) block.0
         (hash_at hashes.now block.0) previous.now }
 {
     let hash = hash_at(hashes, block.0);
@@ -99,8 +102,10 @@ pub fn resolve_pending_tails(
     block: BlockSlot,
     previous: &[u8],
 )
-    ensures { after hashes parents sequences counts flags tips tails missing requested arrivals connected
-        ≡ resolve_tails (before hashes parents sequences counts flags tips tails missing requested arrivals connected) block.0
+    ensures { tables_of hashes.now parents.new sequences.now counts.new flags.now
+        tips.new tails.new missing.new requested.new arrivals.new connected.new
+        ≡ resolve_tails (tables_of hashes.now parents.old sequences.now counts.old flags.now
+        tips.old tails.old missing.old requested.old arrivals.old connected.old) block.0
         previous.now }
 {
     if is_occupied(sequences, block) {

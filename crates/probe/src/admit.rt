@@ -1,7 +1,7 @@
 // Admission, and admit's added step. A parent is a slot, or NONE_REF for none.
 ghost use Rattle.std.specs.Prelude.{◌≡◌};
 ghost use Rattle.probe.specs.Numbers.{slot_from};
-ghost use Rattle.rules.specs.Records.{before, after};
+ghost use Rattle.rules.specs.Records.{tables_of};
 ghost use Rattle.rules.specs.Admission.{insert_head, resolve_tails, admitted, refresh_tails};
 
 use crate::numbers::slot_from;
@@ -27,8 +27,10 @@ pub extern "C" fn probe_insert_head(
     arrival: u64,
     active: u32,
 )
-    ensures { after hashes parents sequences counts flags tips tails missing requested arrivals connected
-        ≡ insert_head (before hashes parents sequences counts flags tips tails missing requested arrivals connected) tip arriving
+    ensures { tables_of hashes.new parents.new sequences.new counts.new flags.new
+        tips.new tails.new missing.new requested.new arrivals.new connected.new
+        ≡ insert_head (tables_of hashes.old parents.old sequences.old counts.old flags.old
+        tips.old tails.old missing.old requested.old arrivals.old connected.old) tip arriving
         previous.now arrival active }
 {
     head_insertion::insert_head(
@@ -68,8 +70,10 @@ pub extern "C" fn probe_resolve_pending_tails(
     block: u32,
     previous: &[u8],
 )
-    ensures { after hashes parents sequences counts flags tips tails missing requested arrivals connected
-        ≡ resolve_tails (before hashes parents sequences counts flags tips tails missing requested arrivals connected) block
+    ensures { tables_of hashes.now parents.new sequences.now counts.new flags.now
+        tips.new tails.new missing.new requested.new arrivals.new connected.new
+        ≡ resolve_tails (tables_of hashes.now parents.old sequences.now counts.old flags.now
+        tips.old tails.old missing.old requested.old arrivals.old connected.old) block
         previous.now }
 {
     pending_tails::resolve_pending_tails(
@@ -109,8 +113,10 @@ pub extern "C" fn probe_on_block_admitted(
     arrival: u64,
     active: u32,
 )
-    ensures { after hashes parents sequences counts flags tips tails missing requested arrivals connected
-        ≡ admitted (before hashes parents sequences counts flags tips tails missing requested arrivals connected) block
+    ensures { tables_of hashes.new parents.new sequences.new counts.new flags.new
+        tips.new tails.new missing.new requested.new arrivals.new connected.new
+        ≡ admitted (tables_of hashes.old parents.old sequences.old counts.old flags.old
+        tips.old tails.old missing.old requested.old arrivals.old connected.old) block
         (slot_from parent) previous.now arrival active }
 {
     admission::on_block_admitted(
@@ -148,8 +154,10 @@ pub extern "C" fn probe_refresh_tails(
     arrivals: &[u64],
     connected: &mut [u8],
 )
-    ensures { after hashes parents sequences counts flags tips tails missing requested arrivals connected
-        ≡ refresh_tails (before hashes parents sequences counts flags tips tails missing requested arrivals connected) }
+    ensures { tables_of hashes.now parents.now sequences.now counts.now flags.now
+        tips.now tails.new missing.new requested.new arrivals.now connected.new
+        ≡ refresh_tails (tables_of hashes.now parents.now sequences.now counts.now flags.now
+        tips.now tails.old missing.old requested.old arrivals.now connected.old) }
 {
     tail_refresh::refresh_tails(
         hashes, parents, sequences, counts, flags, tips, tails, missing, requested, arrivals,

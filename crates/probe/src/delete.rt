@@ -1,6 +1,6 @@
 // Removal.
 ghost use Rattle.std.specs.Prelude.{◌≡◌};
-ghost use Rattle.rules.specs.Records.{before, after};
+ghost use Rattle.rules.specs.Records.{tables_of};
 ghost use Rattle.rules.specs.Removal.{recount_all, blocks_deleted};
 
 use rules::BlockSlot;
@@ -34,8 +34,10 @@ pub extern "C" fn probe_on_blocks_deleted(
     deleted: &[u32],
     reattach: u32,
 )
-    ensures { after hashes parents sequences counts flags tips tails missing requested arrivals connected
-        ≡ blocks_deleted (before hashes parents sequences counts flags tips tails missing requested arrivals connected)
+    ensures { tables_of hashes.now parents.now sequences.now counts.new flags.now
+        tips.new tails.new missing.new requested.new arrivals.new connected.new
+        ≡ blocks_deleted (tables_of hashes.now parents.now sequences.now counts.old flags.now
+        tips.old tails.old missing.old requested.old arrivals.old connected.old)
         deleted.now reattach }
 {
     removal::on_blocks_deleted(

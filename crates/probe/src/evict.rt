@@ -1,7 +1,7 @@
 // Eviction.
 ghost use Rattle.std.specs.Prelude.{◌≡◌};
 ghost use Rattle.query_numbers.specs.Numbers.{or_none};
-ghost use Rattle.rules.specs.Records.{before, after};
+ghost use Rattle.rules.specs.Records.{tables_of};
 ghost use Rattle.rules.specs.Eviction.{victim, evict_one};
 
 use query_numbers::found_head;
@@ -36,8 +36,10 @@ pub extern "C" fn probe_evict_one(
     connected: &mut [u8],
     active: u32,
 )
-    ensures { after hashes parents sequences counts flags tips tails missing requested arrivals connected
-        ≡ evict_one (before hashes parents sequences counts flags tips tails missing requested arrivals connected) active }
+    ensures { tables_of hashes.new parents.new sequences.new counts.new flags.new
+        tips.new tails.new missing.new requested.new arrivals.new connected.new
+        ≡ evict_one (tables_of hashes.old parents.old sequences.old counts.old flags.old
+        tips.old tails.old missing.old requested.old arrivals.old connected.old) active }
 {
     eviction::evict_one(
         hashes,

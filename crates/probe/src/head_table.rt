@@ -3,7 +3,7 @@ ghost use Rattle.std.specs.Prelude.{◌≡◌};
 ghost use Rattle.query_numbers.specs.Numbers.{or_none};
 ghost use Rattle.probe.specs.Numbers.{slot_number, is_head, head_got};
 ghost use Rattle.rules.specs.Hashes.{hash_at};
-ghost use Rattle.rules.specs.Records.{caches_before, caches_after};
+ghost use Rattle.rules.specs.Records.{caches_of};
 ghost use Rattle.rules.specs.Caches.{recompute, refresh_head, recompute_all, next_head, connected_head_at, stored_head_tail, set_missing};
 ghost use Rattle.rules.specs.Admission.{first_empty};
 
@@ -92,9 +92,9 @@ pub extern "C" fn probe_recompute_caches(
     arriving: u32,
     previous: &[u8],
 )
-    ensures { caches_after tails missing requested connected
+    ensures { caches_of tails.new missing.new requested.new connected.new
         ≡ recompute parents.now sequences.now flags.now tips.now
-        (caches_before tails missing requested connected) head arriving previous.now }
+        (caches_of tails.old missing.old requested.old connected.old) head arriving previous.now }
 {
     caches::recompute_caches(
         parents,
@@ -124,9 +124,9 @@ pub extern "C" fn probe_refresh_head(
     connected: &mut [u8],
     tip: u32,
 )
-    ensures { caches_after tails missing requested connected
+    ensures { caches_of tails.new missing.new requested.new connected.new
         ≡ refresh_head parents.now sequences.now flags.now tips.now
-        (caches_before tails missing requested connected) tip }
+        (caches_of tails.old missing.old requested.old connected.old) tip }
 {
     all_caches::refresh_head(
         parents,
@@ -153,9 +153,9 @@ pub extern "C" fn probe_recompute_all_caches(
     requested: &mut [u64],
     connected: &mut [u8],
 )
-    ensures { caches_after tails missing requested connected
+    ensures { caches_of tails.new missing.new requested.new connected.new
         ≡ recompute_all parents.now sequences.now flags.now tips.now
-        (caches_before tails missing requested connected) }
+        (caches_of tails.old missing.old requested.old connected.old) }
 {
     all_caches::recompute_all_caches(
         parents, sequences, flags, tips, tails, missing, requested, connected,

@@ -4,7 +4,7 @@ ghost use Rattle.std.specs.Prelude.{◌≡◌, not, eqb};
 ghost use Rattle.query_numbers.specs.Numbers.{or_none, yes};
 ghost use Rattle.probe.specs.Numbers.{insertion_number, status_from};
 ghost use Rattle.rules.specs.Hashes.{hash_at, hash_less};
-ghost use Rattle.rules.specs.Records.{occupied, status_number, blocks_before, blocks_after, block_of};
+ghost use Rattle.rules.specs.Records.{occupied, status_number, blocks_of, block_of};
 ghost use Rattle.rules.specs.BlockTable.{adjusted_at, adjust_counts, set_occupied, set_on_active_chain, set_status, delete, insertion, insert, insert_at, resolve_parent, set_parent};
 ghost use Rattle.rules.specs.declared.Block.{Block};
 
@@ -111,8 +111,8 @@ pub extern "C" fn probe_insert_at(
     count: u8,
     bits: u8,
 )
-    ensures { blocks_after hashes parents sequences counts flags
-        ≡ insert_at (blocks_before hashes parents sequences counts flags) slot
+    ensures { blocks_of hashes.new parents.new sequences.new counts.new flags.new
+        ≡ insert_at (blocks_of hashes.old parents.old sequences.old counts.old flags.old) slot
         (block_of (hash_at hash.now 0) parent sequence count bits) }
 {
     let bytes = cells::hash_at(hash, 0);
@@ -152,8 +152,8 @@ pub extern "C" fn probe_insert(
         ≡ insertion_number
         (insertion sequences.old
         (block_of (hash_at hash.now 0) parent sequence count bits)))
-        × (blocks_after hashes parents sequences counts flags
-        ≡ insert (blocks_before hashes parents sequences counts flags)
+        × (blocks_of hashes.new parents.new sequences.new counts.new flags.new
+        ≡ insert (blocks_of hashes.old parents.old sequences.old counts.old flags.old)
         (block_of (hash_at hash.now 0) parent sequence count bits)) }
 {
     let bytes = cells::hash_at(hash, 0);
@@ -178,7 +178,8 @@ pub extern "C" fn probe_delete(
     slot: u32,
 ) -> u32
     ensures { (result ≡ yes (occupied sequences.old slot))
-        × (blocks_after hashes parents sequences counts flags ≡ delete (blocks_before hashes parents sequences counts flags) slot) }
+        × (blocks_of hashes.new parents.new sequences.new counts.new flags.new ≡ delete
+        (blocks_of hashes.old parents.old sequences.old counts.old flags.old) slot) }
 {
     said(block_changes::delete(hashes, parents, sequences, counts, flags, BlockSlot(slot)))
 }

@@ -1,6 +1,6 @@
 // Rebuild.
 ghost use Rattle.std.specs.Prelude.{◌≡◌};
-ghost use Rattle.rules.specs.Records.{before, after};
+ghost use Rattle.rules.specs.Records.{tables_of};
 ghost use Rattle.rules.specs.Rebuild.{rebuilt};
 
 use rules::BlockSlot;
@@ -22,8 +22,10 @@ pub extern "C" fn probe_rebuild_from_blocks(
     arrival: u64,
     active: u32,
 )
-    ensures { after hashes parents sequences counts flags tips tails missing requested arrivals connected
-        ≡ rebuilt (before hashes parents sequences counts flags tips tails missing requested arrivals connected) arrival active }
+    ensures { tables_of hashes.new parents.new sequences.new counts.new flags.new
+        tips.new tails.new missing.new requested.new arrivals.new connected.new
+        ≡ rebuilt (tables_of hashes.old parents.old sequences.old counts.old flags.old
+        tips.old tails.old missing.old requested.old arrivals.old connected.old) arrival active }
 {
     rebuild::rebuild_from_blocks(
         hashes,

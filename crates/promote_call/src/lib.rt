@@ -1,6 +1,6 @@
 // Promote: the covered core, on the record's number.
 ghost use Rattle.std.specs.Prelude.{◌≡◌, true};
-ghost use Rattle.rules.specs.Records.{before, after};
+ghost use Rattle.rules.specs.Records.{tables_of};
 ghost use Rattle.rules.specs.Promotion.{promoted as promoted_rule};
 ghost use Rattle.rules.specs.BlockTable.{set_on_active_chain, set_status};
 ghost use Rattle.rules.specs.Answers.{outcome_said};
@@ -45,8 +45,10 @@ fn raise(
     connected: &mut [u8],
     slot: BlockSlot,
 )
-    ensures { after hashes parents sequences counts flags tips tails missing requested arrivals connected
-        ≡ promoted_rule (before hashes parents sequences counts flags tips tails missing requested arrivals connected) slot.0 }
+    ensures { tables_of hashes.now parents.now sequences.now counts.now flags.new
+        tips.now tails.new missing.new requested.new arrivals.now connected.new
+        ≡ promoted_rule (tables_of hashes.now parents.now sequences.now counts.now flags.old
+        tips.now tails.old missing.old requested.old arrivals.now connected.old) slot.0 }
 {
     activate(sequences, flags, slot);
     recompute_all_caches(
@@ -71,9 +73,11 @@ pub fn promote(
     slot: BlockSlot,
 ) -> Recorded
     ensures { Sets (outcome_said result.outcome) result.active.0
-        (after hashes parents sequences counts flags tips tails missing requested arrivals connected)
+        (tables_of hashes.now parents.now sequences.now counts.now flags.new
+        tips.now tails.new missing.new requested.new arrivals.now connected.new)
         (promote_rule
-        (state_of (before hashes parents sequences counts flags tips tails missing requested arrivals connected) active.0)
+        (state_of (tables_of hashes.now parents.now sequences.now counts.now flags.old
+        tips.now tails.old missing.old requested.old arrivals.now connected.old) active.0)
         slot.0) }
 {
     if !is_shaped(

@@ -1,7 +1,7 @@
 // Heads made anew from the blocks: port of `rebuild_from_blocks` of src/chain_heads.rs.
 ghost use Rattle.std.specs.Prelude.{◌≡◌, true, false, not, length};
 ghost use Rattle.rules.specs.Common.{if◌then◌else◌, is_some};
-ghost use Rattle.rules.specs.Records.{before, after};
+ghost use Rattle.rules.specs.Records.{tables_of};
 ghost use Rattle.rules.specs.Admission.{first_empty};
 ghost use Rattle.rules.specs.Rebuild.{rebuild_at, rebuild_heads, rebuilt};
 ghost use Rattle.named_parents.specs.Named.{named_parents};
@@ -50,9 +50,11 @@ fn rebuild_at(
     slot: BlockSlot,
 )
     ensures { named.old ≡ named_parents parents.old sequences.old (length named.old)
-        → (after hashes parents sequences counts flags tips tails missing requested arrivals connected
+        → (tables_of hashes.new parents.new sequences.new counts.new flags.new
+        tips.new tails.new missing.new requested.new arrivals.new connected.new
         ≡ rebuild_at arrival active.0 slot.0
-        (before hashes parents sequences counts flags tips tails missing requested arrivals connected))
+        (tables_of hashes.old parents.old sequences.old counts.old flags.old
+        tips.old tails.old missing.old requested.old arrivals.old connected.old))
         × (named.new ≡ named_parents parents.new sequences.new (length named.old)) }
 {
     if is_end(parents, sequences, named, slot) {
@@ -96,8 +98,10 @@ fn rebuild_heads(
     arrival: u64,
     active: BlockSlot,
 )
-    ensures { after hashes parents sequences counts flags tips tails missing requested arrivals connected
-        ≡ rebuild_heads (before hashes parents sequences counts flags tips tails missing requested arrivals connected) arrival
+    ensures { tables_of hashes.new parents.new sequences.new counts.new flags.new
+        tips.new tails.new missing.new requested.new arrivals.new connected.new
+        ≡ rebuild_heads (tables_of hashes.old parents.old sequences.old counts.old flags.old
+        tips.old tails.old missing.old requested.old arrivals.old connected.old) arrival
         active.0 }
 {
     name_parents(parents, sequences, named);
@@ -142,8 +146,10 @@ pub fn rebuild_from_blocks(
     arrival: u64,
     active: BlockSlot,
 )
-    ensures { after hashes parents sequences counts flags tips tails missing requested arrivals connected
-        ≡ rebuilt (before hashes parents sequences counts flags tips tails missing requested arrivals connected) arrival active.0 }
+    ensures { tables_of hashes.new parents.new sequences.new counts.new flags.new
+        tips.new tails.new missing.new requested.new arrivals.new connected.new
+        ≡ rebuilt (tables_of hashes.old parents.old sequences.old counts.old flags.old
+        tips.old tails.old missing.old requested.old arrivals.old connected.old) arrival active.0 }
 {
     let mut named = [0u8; 1024];
     rebuild_heads(

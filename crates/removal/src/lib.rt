@@ -2,7 +2,7 @@
 // of src/chain_heads.rs.
 ghost use Rattle.std.specs.Prelude.{◌≡◌};
 ghost use Rattle.rules.specs.Common.{is_at};
-ghost use Rattle.rules.specs.Records.{heads_before, heads_after, before, after};
+ghost use Rattle.rules.specs.Records.{heads_of, tables_of};
 ghost use Rattle.rules.specs.Removal.{drop_head, drop_heads, blocks_deleted};
 ghost use Rattle.rules.specs.Answers.{head_found};
 ghost use Rattle.removal.specs.After.{heads_left};
@@ -35,9 +35,9 @@ fn drop_head(
     reattach: BlockSlot,
     head: HeadSlot,
 )
-    ensures { heads_after tips tails missing requested arrivals connected
+    ensures { heads_of tips.new tails.new missing.new requested.new arrivals.new connected.new
         ≡ drop_head deleted.now (head_found moving) reattach.0 head.0
-        (heads_before tips tails missing requested arrivals connected) }
+        (heads_of tips.old tails.old missing.old requested.old arrivals.old connected.old) }
 {
     if is_at(moving, head) {
         put_word(tips, head.0, reattach.0);
@@ -68,9 +68,9 @@ fn drop_heads(
     moving: FoundHead,
     reattach: BlockSlot,
 )
-    ensures { heads_after tips tails missing requested arrivals connected
+    ensures { heads_of tips.new tails.new missing.new requested.new arrivals.new connected.new
         ≡ drop_heads deleted.now (head_found moving) reattach.0
-        (heads_before tips tails missing requested arrivals connected) }
+        (heads_of tips.old tails.old missing.old requested.old arrivals.old connected.old) }
 {
     let m = slots(tips);
     let mut k: u32 = 0;
@@ -105,9 +105,9 @@ fn update_heads(
     moving: FoundHead,
     reattach: BlockSlot,
 )
-    ensures { heads_after tips tails missing requested arrivals connected
+    ensures { heads_of tips.new tails.new missing.new requested.new arrivals.new connected.new
         ≡ heads_left parents.now sequences.now flags.now deleted.now (head_found moving)
-        reattach.0 (heads_before tips tails missing requested arrivals connected) }
+        reattach.0 (heads_of tips.old tails.old missing.old requested.old arrivals.old connected.old) }
 {
     drop_heads(
         tips, tails, missing, requested, arrivals, connected, deleted, moving, reattach,
@@ -133,8 +133,10 @@ pub fn on_blocks_deleted(
     deleted: &[u32],
     reattach: BlockSlot,
 )
-    ensures { after hashes parents sequences counts flags tips tails missing requested arrivals connected
-        ≡ blocks_deleted (before hashes parents sequences counts flags tips tails missing requested arrivals connected)
+    ensures { tables_of hashes.now parents.now sequences.now counts.new flags.now
+        tips.new tails.new missing.new requested.new arrivals.new connected.new
+        ≡ blocks_deleted (tables_of hashes.now parents.now sequences.now counts.old flags.now
+        tips.old tails.old missing.old requested.old arrivals.old connected.old)
         deleted.now reattach.0 }
 {
     let moving = heir(parents, sequences, tips, deleted, reattach);

@@ -1,7 +1,7 @@
 // Remove.
 ghost use Rattle.std.specs.Prelude.{◌≡◌, not, ℕ, min};
 ghost use Rattle.rules.specs.Common.{if◌then◌else◌};
-ghost use Rattle.rules.specs.Records.{parent_at, occupied, before, after};
+ghost use Rattle.rules.specs.Records.{parent_at, occupied, tables_of};
 ghost use Rattle.rules.specs.Removal.{list_removed};
 ghost use Rattle.rules.specs.Answers.{refused, done, outcome_said, removed_said};
 ghost use Rattle.rules.specs.Calls.{state_of, max_blocks, shaped, remove as remove_rule, Does};
@@ -30,8 +30,10 @@ fn remove_listed(
     deleted: &[u32],
     root: BlockSlot,
 )
-    ensures { after hashes parents sequences counts flags tips tails missing requested arrivals connected
-        ≡ list_removed (before hashes parents sequences counts flags tips tails missing requested arrivals connected)
+    ensures { tables_of hashes.new parents.new sequences.new counts.new flags.new
+        tips.new tails.new missing.new requested.new arrivals.new connected.new
+        ≡ list_removed (tables_of hashes.old parents.old sequences.old counts.old flags.old
+        tips.old tails.old missing.old requested.old arrivals.old connected.old)
         deleted.now (parent_at parents.old root.0) }
 {
     let parent = BlockSlot(word_at(parents, root.0));
@@ -58,7 +60,8 @@ fn permit(
     root: BlockSlot,
 ) -> Outcome
     ensures { outcome_said result
-        ≡ (if not (shaped (before hashes parents sequences counts flags tips tails missing requested arrivals connected)) then refused 1
+        ≡ (if not (shaped (tables_of hashes.now parents.now sequences.now counts.now flags.now
+        tips.now tails.now missing.now requested.now arrivals.now connected.now)) then refused 1
         else if not (occupied sequences.now root.0) then refused 3 else done) }
 {
     if !is_shaped(
@@ -98,9 +101,11 @@ pub fn remove(
     root: BlockSlot,
 ) -> Removed
     ensures { (active_head : ℕ) → Does (removed_said result)
-        (after hashes parents sequences counts flags tips tails missing requested arrivals connected)
+        (tables_of hashes.new parents.new sequences.new counts.new flags.new
+        tips.new tails.new missing.new requested.new arrivals.new connected.new)
         (remove_rule
-        (state_of (before hashes parents sequences counts flags tips tails missing requested arrivals connected) active_head)
+        (state_of (tables_of hashes.old parents.old sequences.old counts.old flags.old
+        tips.old tails.old missing.old requested.old arrivals.old connected.old) active_head)
         root.0) }
 {
     match permit(

@@ -1,6 +1,6 @@
 // Restart.
 ghost use Rattle.std.specs.Prelude.{◌≡◌};
-ghost use Rattle.rules.specs.Records.{before, after};
+ghost use Rattle.rules.specs.Records.{tables_of};
 ghost use Rattle.rules.specs.Answers.{outcome_said};
 ghost use Rattle.rules.specs.Calls.{state_of, restart as restart_rule, Does};
 
@@ -27,9 +27,11 @@ pub fn restart(
     clock: u64,
 ) -> Outcome
     ensures { Does (outcome_said result)
-        (after hashes parents sequences counts flags tips tails missing requested arrivals connected)
+        (tables_of hashes.new parents.new sequences.new counts.new flags.new
+        tips.new tails.new missing.new requested.new arrivals.new connected.new)
         (restart_rule
-        (state_of (before hashes parents sequences counts flags tips tails missing requested arrivals connected) active.0)
+        (state_of (tables_of hashes.old parents.old sequences.old counts.old flags.old
+        tips.old tails.old missing.old requested.old arrivals.old connected.old) active.0)
         clock) }
 {
     if !is_shaped(

@@ -1,9 +1,9 @@
 -- The records (01, "Records"): the two tables as a list a field, how a cell is read, and the fixed empty records.
+use denote.MutBor.{MutBor}
+use denote.Triple.Both.{Both}
 use Rattle.std.specs.Prelude.{Bool, not, ◌&&◌, List, ℕ, ◌+◌, ◌*◌, ◌/◌, ◌%◌, min, eqb, length, get_or, set, replicate}
 use Rattle.rules.specs.Kinds.{BlockSlot, HeadSlot, Sequence, Time, Hash}
 use Rattle.rules.specs.Common.{if◌then◌else◌, is_some, lowest, count_below}
-use denote.Triple.Both.{Both}
-use Rattle.std.specs.Borrow.{Bor}
 use Rattle.rules.specs.Hashes.{hash_length, zero_hash, hash_at, put_hash}
 use Rattle.rules.specs.declared.Block.{Block}
 use Rattle.rules.specs.declared.Head.{Head}
@@ -54,34 +54,10 @@ pub record Caches : Type 0 where
 abbrev pub caches_of : (tails missing requested connected : List ℕ) → Caches
 caches_of l m r c = record { tails = l; missing = m; requested = r; connected = c }
 
--- ---- as a call is lent them: each buffer at the call's entry and at its end, where one lent for reading stands as it stood
+-- ---- a buffer that a call is lent and may write: as it stood at the call's entry, and at its end
 
 abbrev pub Lent : Type 0
-Lent = Both (Bor (List ℕ)) (Bor (List ℕ))
-
-abbrev pub blocks_before : (hashes parents sequences counts flags : Lent) → Blocks
-blocks_before h p s c f = blocks_of h.entry.now p.entry.now s.entry.now c.entry.now f.entry.now
-
-abbrev pub blocks_after : (hashes parents sequences counts flags : Lent) → Blocks
-blocks_after h p s c f = blocks_of h.exit.now p.exit.now s.exit.now c.exit.now f.exit.now
-
-abbrev pub heads_before : (tips tails missing requested arrivals connected : Lent) → Heads
-heads_before t l m r a c = heads_of t.entry.now l.entry.now m.entry.now r.entry.now a.entry.now c.entry.now
-
-abbrev pub heads_after : (tips tails missing requested arrivals connected : Lent) → Heads
-heads_after t l m r a c = heads_of t.exit.now l.exit.now m.exit.now r.exit.now a.exit.now c.exit.now
-
-abbrev pub caches_before : (tails missing requested connected : Lent) → Caches
-caches_before l m r c = caches_of l.entry.now m.entry.now r.entry.now c.entry.now
-
-abbrev pub caches_after : (tails missing requested connected : Lent) → Caches
-caches_after l m r c = caches_of l.exit.now m.exit.now r.exit.now c.exit.now
-
-abbrev pub before : (hashes parents sequences counts flags tips tails missing requested arrivals connected : Lent) → Tables
-before h p s c f t l m r a k = record { blocks = blocks_before h p s c f; heads = heads_before t l m r a k }
-
-abbrev pub after : (hashes parents sequences counts flags tips tails missing requested arrivals connected : Lent) → Tables
-after h p s c f t l m r a k = record { blocks = blocks_after h p s c f; heads = heads_after t l m r a k }
+Lent = Both (MutBor (List ℕ)) (MutBor (List ℕ))
 
 -- ---- one field or one table is another
 

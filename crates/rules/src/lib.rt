@@ -4,21 +4,21 @@ ghost use Rattle.rules.specs.Records.{empty_block, empty_head};
 
 // A place in the block table; laid out for C, as the record of the active head and those of the head screen hold one.
 #[repr(C)]
-#[derive(Drop)]
+#[derive(Clone, Copy)]
 pub struct BlockSlot(pub u32);
 
 // A place in the head table.
-#[derive(Drop)]
+#[derive(Clone, Copy)]
 pub struct HeadSlot(pub u32);
 
 // A block's sequence number; laid out for C, as a record of the head screen holds one.
 #[repr(C)]
-#[derive(Drop)]
+#[derive(Clone, Copy)]
 pub struct Sequence(pub u32);
 
 // Whether a head is connected or stored; laid out for C, as a record of the head screen holds one.
 #[repr(C)]
-#[derive(Drop)]
+#[derive(Clone, Copy)]
 pub struct HeadKind(pub u32);
 
 // No block, no head, and the sequence of an empty slot: one number, and a constant of each type.
@@ -41,7 +41,7 @@ impl HeadKind {
 }
 
 // A block: bit 0 of its flags says that it is on the active chain, bits 1 and 2 are its status.
-#[derive(Drop)]
+#[derive(Clone, Copy)]
 pub struct Block {
     pub hash: [u8; 32],
     pub parent: BlockSlot,
@@ -66,7 +66,7 @@ impl Block {
 }
 
 // A head: its tail or connection slot stands in `tail`, its last request time in `requested`, its flag in bit 0 of `connected`.
-#[derive(Drop)]
+#[derive(Clone, Copy)]
 pub struct Head {
     pub tip: BlockSlot,
     pub tail: BlockSlot,
@@ -93,7 +93,7 @@ impl Head {
 }
 
 // What bits 1 and 2 of a block's flags say: 0, 1 and 2 in this order; 3 reads as Stored.
-#[derive(Drop)]
+#[derive(Clone, Copy)]
 pub enum BlockStatus {
     Stored,
     Connected,
@@ -101,28 +101,28 @@ pub enum BlockStatus {
 }
 
 // A block slot, or none.
-#[derive(Drop)]
+#[derive(Clone, Copy)]
 pub enum Found {
     At(BlockSlot),
     Nothing,
 }
 
 // A head slot, or none.
-#[derive(Drop)]
+#[derive(Clone, Copy)]
 pub enum FoundHead {
     At(HeadSlot),
     Nothing,
 }
 
 // A head in use with its tip and its anchor, or none.
-#[derive(Drop)]
+#[derive(Clone, Copy)]
 pub enum NextHead {
     At(HeadSlot, BlockSlot, BlockSlot),
     Nothing,
 }
 
 // The slot of an inserted block, or why it has none.
-#[derive(Drop)]
+#[derive(Clone, Copy)]
 pub enum Inserted {
     At(BlockSlot),
     ReservedSequence,
@@ -130,56 +130,56 @@ pub enum Inserted {
 }
 
 // A block, or none: `there` tells which. Where there is none the block is the empty one.
-#[derive(Drop)]
+#[derive(Clone, Copy)]
 pub struct Got {
     pub there: bool,
     pub block: Block,
 }
 
 // The count of a block, or none.
-#[derive(Drop)]
+#[derive(Clone, Copy)]
 pub enum Counted {
     Count(u8),
     Nothing,
 }
 
 // The status of a block, or none.
-#[derive(Drop)]
+#[derive(Clone, Copy)]
 pub enum StatusFound {
     Status(BlockStatus),
     Nothing,
 }
 
 // Where the parent walk of a tip ends.
-#[derive(Drop)]
+#[derive(Clone, Copy)]
 pub enum Located {
     Connection(BlockSlot),
     Tail(BlockSlot),
 }
 
 // The retry span of a timer or deadline call.
-#[derive(Drop)]
+#[derive(Clone, Copy)]
 pub enum Span {
     Ticks(u64),
     Unset,
 }
 
 // A head to ask for its missing parent, with the sequence that it claims, or none.
-#[derive(Drop)]
+#[derive(Clone, Copy)]
 pub enum Recovery {
     Ask(HeadSlot, Sequence),
     NoneDue,
 }
 
 // The least due time, or none.
-#[derive(Drop)]
+#[derive(Clone, Copy)]
 pub enum Deadline {
     At(u64),
     Never,
 }
 
 // Why a call is refused.
-#[derive(Drop)]
+#[derive(Clone, Copy)]
 pub enum Refusal {
     Shape,
     HashLength,
@@ -194,7 +194,7 @@ pub enum Refusal {
 }
 
 // The answer of fresh, promote and restart.
-#[derive(Drop)]
+#[derive(Clone, Copy)]
 pub enum Outcome {
     Done,
     Refused(Refusal),
@@ -202,34 +202,34 @@ pub enum Outcome {
 
 // The record: the slot of the active head, or NONE_REF.
 #[repr(C)]
-#[derive(Drop)]
+#[derive(Clone, Copy)]
 pub struct ActiveHead {
     pub slot: BlockSlot,
 }
 
 // The answer of a call that may set the record, and what the record then holds.
-#[derive(Drop)]
+#[derive(Clone, Copy)]
 pub struct Recorded {
     pub outcome: Outcome,
     pub active: BlockSlot,
 }
 
 // The answer of admit.
-#[derive(Drop)]
+#[derive(Clone, Copy)]
 pub enum Admitted {
     Slot(BlockSlot),
     Refused(Refusal),
 }
 
 // The answer of remove.
-#[derive(Drop)]
+#[derive(Clone, Copy)]
 pub enum Removed {
     Freed(u32),
     Refused(Refusal),
 }
 
 // The answer of under: how many blocks hang under a block, itself among them, and the highest sequence among them.
-#[derive(Drop)]
+#[derive(Clone, Copy)]
 pub enum Hanging {
     Blocks(u32, Sequence),
     Refused(Refusal),
@@ -237,7 +237,7 @@ pub enum Hanging {
 
 // A record of the head screen: a head's tip, the tip's sequence, which is NONE_REF where the tip is empty, its kind and its anchor.
 #[repr(C)]
-#[derive(Drop)]
+#[derive(Clone, Copy)]
 pub struct HeadRow {
     pub tip: BlockSlot,
     pub sequence: Sequence,
@@ -246,14 +246,14 @@ pub struct HeadRow {
 }
 
 // The answer of screen: how many records there are; the records stand beside it.
-#[derive(Drop)]
+#[derive(Clone, Copy)]
 pub enum Screened {
     Rows(u32),
     Refused(Refusal),
 }
 
 // The answer of timer; the hash that is asked for stands beside it.
-#[derive(Drop)]
+#[derive(Clone, Copy)]
 pub enum Timed {
     Request(HeadSlot, Sequence),
     NoneDue,
@@ -261,14 +261,14 @@ pub enum Timed {
 }
 
 // The answer of timer with the hash that is asked for beside it, zeros where nothing is.
-#[derive(Drop)]
+#[derive(Clone, Copy)]
 pub struct TimerAnswer {
     pub timed: Timed,
     pub missing: [u8; 32],
 }
 
 // The answer of the deadline call.
-#[derive(Drop)]
+#[derive(Clone, Copy)]
 pub enum DeadlineAnswer {
     At(u64),
     Never,

@@ -1,6 +1,6 @@
 // Whether the buffers fit one another, and n and m are in range.
 ghost use Rattle.std.specs.Prelude.{◌≡◌, length};
-ghost use Rattle.rules.specs.Records.{blocks_fit, heads_fit, blocks_before, heads_before, before};
+ghost use Rattle.rules.specs.Records.{blocks_fit, heads_fit, blocks_of, heads_of, tables_of};
 ghost use Rattle.rules.specs.Calls.{shaped};
 
 fn blocks_fit(
@@ -10,7 +10,8 @@ fn blocks_fit(
     counts: &[u8],
     flags: &[u8],
 ) -> bool
-    ensures { result ≡ blocks_fit (blocks_before hashes parents sequences counts flags) (length parents.now) }
+    ensures { result ≡ blocks_fit
+        (blocks_of hashes.now parents.now sequences.now counts.now flags.now) (length parents.now) }
 {
     let n = parents.len();
     if hashes.len() / 32 != n {
@@ -39,7 +40,8 @@ fn heads_fit(
     arrivals: &[u64],
     connected: &[u8],
 ) -> bool
-    ensures { result ≡ heads_fit (heads_before tips tails missing requested arrivals connected) (length tips.now) }
+    ensures { result ≡ heads_fit (heads_of
+        tips.now tails.now missing.now requested.now arrivals.now connected.now) (length tips.now) }
 {
     let m = tips.len();
     if tails.len() != m {
@@ -77,7 +79,8 @@ pub fn is_shaped(
     arrivals: &[u64],
     connected: &[u8],
 ) -> bool
-    ensures { result ≡ shaped (before hashes parents sequences counts flags tips tails missing requested arrivals connected) }
+    ensures { result ≡ shaped (tables_of hashes.now parents.now sequences.now counts.now flags.now
+        tips.now tails.now missing.now requested.now arrivals.now connected.now) }
 {
     let n = parents.len();
     let m = tips.len();

@@ -7,7 +7,7 @@ use native.Mathlib.Omega.{arith}
 use lib.ListN.{length, get_or, set, length-set}
 use lib.Seq.{sets}
 use denote.Triple.Both.{Both}
-use denote.Ref.{Bor}
+use denote.MutBor.{MutBor}
 use Rattle.rules.specs.Records.{Tables}
 use Rattle.rules.specs.Screen.{row_of}
 use Rattle.rules.specs.Answers.{Answer, screened_said}
@@ -81,7 +81,7 @@ lists t left keys keys' room rule answer s number rows n r =
       few = rw r s.few;
     }
 
-pub list-shows : (list : Both (Bor (List HeadRow)) (Bor (List HeadRow))) (listed : Listed) (keys : List ℕ) (t left : Tables) (room : ℕ) (rule : Stepped)
+pub list-shows : (list : Both (MutBor (List HeadRow)) (MutBor (List HeadRow))) (listed : Listed) (keys : List ℕ) (t left : Tables) (room : ℕ) (rule : Stepped)
     → Lists listed keys t left room rule
     → list.exit.now ≡ filled (row_in t.blocks.sequences t.heads.tips t.heads.tails t.heads.connected keys) listed.rows list.entry.now
     → Shows listed.answer list left rule

@@ -4,7 +4,7 @@ ghost use Rattle.std.proofs.lemmas.List.Edits.{sets};
 ghost use Rattle.query_numbers.specs.Numbers.{or_none, yes};
 ghost use Rattle.station.specs.Blocks.{Gets};
 ghost use Rattle.rules.specs.Hashes.{hash_at};
-ghost use Rattle.rules.specs.Records.{blocks_before};
+ghost use Rattle.rules.specs.Records.{blocks_of};
 ghost use Rattle.rules.specs.BlockTable.{find, next_free, find_parent, get, head_ref_count, status_at, mark_subtree, walks_to_active_chain};
 
 use query_numbers::{counted, found, said, status_found};
@@ -72,7 +72,8 @@ pub extern "C" fn station_get(
     hash: &mut [u8],
     words: &mut [u32],
 ) -> u32
-    ensures { Gets (get (blocks_before hashes parents sequences counts flags) slot) hash.old words.old result
+    ensures { Gets (get
+        (blocks_of hashes.now parents.now sequences.now counts.now flags.now) slot) hash.old words.old result
         hash.new words.new }
 {
     let got = block_reading::get(hashes, parents, sequences, counts, flags, BlockSlot(slot));

@@ -1,6 +1,6 @@
 // The calls that set the record, which is lent to them.
 ghost use Rattle.std.specs.Prelude.{◌≡◌};
-ghost use Rattle.rules.specs.Records.{before, after};
+ghost use Rattle.rules.specs.Records.{tables_of};
 ghost use Rattle.rules.specs.Calls.{state_of, promote as promote_rule, fresh as fresh_rule};
 ghost use Rattle.call_numbers.specs.Numbers.{GivesAndSets};
 
@@ -10,7 +10,7 @@ use promote_call::promote;
 use rules::{ActiveHead, BlockSlot};
 
 // The answer, and what the record then holds.
-#[derive(Drop)]
+#[derive(Clone, Copy)]
 struct Kept {
     answer: u64,
     active: BlockSlot,
@@ -32,9 +32,11 @@ fn promote_kept(
     slot: u32,
 ) -> Kept
     ensures { GivesAndSets result.answer result.active.0
-        (after hashes parents sequences counts flags tips tails missing requested arrivals connected)
+        (tables_of hashes.now parents.now sequences.now counts.now flags.new
+        tips.now tails.new missing.new requested.new arrivals.now connected.new)
         (promote_rule
-        (state_of (before hashes parents sequences counts flags tips tails missing requested arrivals connected) active.0)
+        (state_of (tables_of hashes.now parents.now sequences.now counts.now flags.old
+        tips.now tails.old missing.old requested.old arrivals.now connected.old) active.0)
         slot) }
 {
     let recorded = promote(
@@ -75,9 +77,11 @@ fn fresh_kept(
     active: BlockSlot,
 ) -> Kept
     ensures { GivesAndSets result.answer result.active.0
-        (after hashes parents sequences counts flags tips tails missing requested arrivals connected)
+        (tables_of hashes.new parents.new sequences.new counts.new flags.new
+        tips.new tails.new missing.new requested.new arrivals.new connected.new)
         (fresh_rule
-        (state_of (before hashes parents sequences counts flags tips tails missing requested arrivals connected) active.0)) }
+        (state_of (tables_of hashes.old parents.old sequences.old counts.old flags.old
+        tips.old tails.old missing.old requested.old arrivals.old connected.old) active.0)) }
 {
     let recorded = fresh(
         hashes, parents, sequences, counts, flags, tips, tails, missing, requested, arrivals,
@@ -109,9 +113,11 @@ pub extern "C" fn station_promote(
     slot: u32,
 ) -> u64
     ensures { GivesAndSets result held.new.slot.0
-        (after hashes parents sequences counts flags tips tails missing requested arrivals connected)
+        (tables_of hashes.now parents.now sequences.now counts.now flags.new
+        tips.now tails.new missing.new requested.new arrivals.now connected.new)
         (promote_rule
-        (state_of (before hashes parents sequences counts flags tips tails missing requested arrivals connected)
+        (state_of (tables_of hashes.now parents.now sequences.now counts.now flags.old
+        tips.now tails.old missing.old requested.old arrivals.now connected.old)
         held.old.slot.0)
         slot) }
 {
@@ -140,9 +146,11 @@ pub extern "C" fn station_fresh(
     held: &mut ActiveHead,
 ) -> u64
     ensures { GivesAndSets result held.new.slot.0
-        (after hashes parents sequences counts flags tips tails missing requested arrivals connected)
+        (tables_of hashes.new parents.new sequences.new counts.new flags.new
+        tips.new tails.new missing.new requested.new arrivals.new connected.new)
         (fresh_rule
-        (state_of (before hashes parents sequences counts flags tips tails missing requested arrivals connected)
+        (state_of (tables_of hashes.old parents.old sequences.old counts.old flags.old
+        tips.old tails.old missing.old requested.old arrivals.old connected.old)
         held.old.slot.0)) }
 {
     let emptied = fresh_kept(

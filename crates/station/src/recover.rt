@@ -1,6 +1,6 @@
 // Timer, and the earliest deadline.
 ghost use Rattle.std.specs.Prelude.{◌≡◌, ℕ};
-ghost use Rattle.rules.specs.Records.{before, after};
+ghost use Rattle.rules.specs.Records.{tables_of};
 ghost use Rattle.rules.specs.Calls.{state_of, timer as timer_rule, earliest_deadline};
 ghost use Rattle.call_numbers.specs.Numbers.{span_from, Asks, Waits};
 
@@ -29,9 +29,11 @@ pub extern "C" fn station_timer(
     wanted: &mut [u8],
 ) -> u64
     ensures { (active_head : ℕ) → Asks result claimed wanted
-        (after hashes parents sequences counts flags tips tails missing requested arrivals connected)
+        (tables_of hashes.now parents.now sequences.now counts.now flags.now
+        tips.now tails.now missing.now requested.new arrivals.now connected.now)
         (timer_rule
-        (state_of (before hashes parents sequences counts flags tips tails missing requested arrivals connected) active_head)
+        (state_of (tables_of hashes.now parents.now sequences.now counts.now flags.now
+        tips.now tails.now missing.now requested.old arrivals.now connected.now) active_head)
         clock (span_from given span)) }
 {
     let answer = timer(
@@ -74,9 +76,11 @@ pub extern "C" fn station_earliest_deadline(
     time: &mut [u64],
 ) -> u64
     ensures { (active_head : ℕ) → Waits result time
-        (after hashes parents sequences counts flags tips tails missing requested arrivals connected)
+        (tables_of hashes.now parents.now sequences.now counts.now flags.now
+        tips.now tails.now missing.now requested.now arrivals.now connected.now)
         (earliest_deadline
-        (state_of (before hashes parents sequences counts flags tips tails missing requested arrivals connected) active_head)
+        (state_of (tables_of hashes.now parents.now sequences.now counts.now flags.now
+        tips.now tails.now missing.now requested.now arrivals.now connected.now) active_head)
         (span_from given span)) }
 {
     deadline_number(

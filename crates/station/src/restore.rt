@@ -1,6 +1,6 @@
 // Restart.
 ghost use Rattle.std.specs.Prelude.{◌≡◌};
-ghost use Rattle.rules.specs.Records.{before, after};
+ghost use Rattle.rules.specs.Records.{tables_of};
 ghost use Rattle.rules.specs.Calls.{state_of, restart as restart_rule};
 ghost use Rattle.call_numbers.specs.Numbers.{Gives};
 
@@ -26,9 +26,11 @@ pub extern "C" fn station_restart(
     clock: u64,
 ) -> u64
     ensures { Gives result
-        (after hashes parents sequences counts flags tips tails missing requested arrivals connected)
+        (tables_of hashes.new parents.new sequences.new counts.new flags.new
+        tips.new tails.new missing.new requested.new arrivals.new connected.new)
         (restart_rule
-        (state_of (before hashes parents sequences counts flags tips tails missing requested arrivals connected) active)
+        (state_of (tables_of hashes.old parents.old sequences.old counts.old flags.old
+        tips.old tails.old missing.old requested.old arrivals.old connected.old) active)
         clock) }
 {
     outcome_number(restart(

@@ -1,6 +1,6 @@
 // The head screen, whose records are filled into a list that is lent.
 ghost use Rattle.std.specs.Prelude.{◌≡◌, ℕ, length};
-ghost use Rattle.rules.specs.Records.{before, after};
+ghost use Rattle.rules.specs.Records.{tables_of};
 ghost use Rattle.rules.specs.Calls.{state_of, screen as screen_rule};
 ghost use Rattle.call_numbers.specs.Numbers.{Shows};
 ghost use Rattle.screen_call.specs.Keys.{rows_of};
@@ -11,7 +11,7 @@ use rules::{HeadRow, Screened};
 use screen_call::{row_at, screen};
 
 // The answer, and how many records it has.
-#[derive(Drop)]
+#[derive(Clone, Copy)]
 struct Listed {
     answer: u64,
     rows: usize,
@@ -42,10 +42,13 @@ fn list_rows(
     keys: &mut [u64; 64],
 ) -> Listed
     ensures { (active_head : ℕ) → Lists result keys.new
-        (before hashes parents sequences counts flags tips tails missing requested arrivals connected)
-        (after hashes parents sequences counts flags tips tails missing requested arrivals connected) room
+        (tables_of hashes.now parents.now sequences.now counts.now flags.now
+        tips.now tails.now missing.now requested.now arrivals.now connected.now)
+        (tables_of hashes.now parents.now sequences.now counts.now flags.now
+        tips.now tails.now missing.now requested.now arrivals.now connected.now) room
         (screen_rule
-        (state_of (before hashes parents sequences counts flags tips tails missing requested arrivals connected) active_head)
+        (state_of (tables_of hashes.now parents.now sequences.now counts.now flags.now
+        tips.now tails.now missing.now requested.now arrivals.now connected.now) active_head)
         room) }
 {
     let screened = screen(
@@ -76,9 +79,11 @@ pub extern "C" fn station_screen(
     rows: &mut [HeadRow],
 ) -> u64
     ensures { (active_head : ℕ) → Shows result rows
-        (after hashes parents sequences counts flags tips tails missing requested arrivals connected)
+        (tables_of hashes.now parents.now sequences.now counts.now flags.now
+        tips.now tails.now missing.now requested.now arrivals.now connected.now)
         (screen_rule
-        (state_of (before hashes parents sequences counts flags tips tails missing requested arrivals connected) active_head)
+        (state_of (tables_of hashes.now parents.now sequences.now counts.now flags.now
+        tips.now tails.now missing.now requested.now arrivals.now connected.now) active_head)
         (length rows.old)) }
 {
     let mut keys = [0u64; 64];

@@ -1,6 +1,6 @@
 // Admit, remove, and how much hangs under a block.
 ghost use Rattle.std.specs.Prelude.{◌≡◌, ℕ};
-ghost use Rattle.rules.specs.Records.{before, after};
+ghost use Rattle.rules.specs.Records.{tables_of};
 ghost use Rattle.rules.specs.Calls.{state_of, admit as admit_rule, remove as remove_rule, under as under_rule};
 ghost use Rattle.call_numbers.specs.Numbers.{Gives, Hangs};
 
@@ -31,9 +31,11 @@ pub extern "C" fn station_admit(
     arrival: u64,
 ) -> u64
     ensures { Gives result
-        (after hashes parents sequences counts flags tips tails missing requested arrivals connected)
+        (tables_of hashes.new parents.new sequences.new counts.new flags.new
+        tips.new tails.new missing.new requested.new arrivals.new connected.new)
         (admit_rule
-        (state_of (before hashes parents sequences counts flags tips tails missing requested arrivals connected) active)
+        (state_of (tables_of hashes.old parents.old sequences.old counts.old flags.old
+        tips.old tails.old missing.old requested.old arrivals.old connected.old) active)
         sequence hash.now previous.now arrival) }
 {
     admitted_number(admit(
@@ -73,9 +75,11 @@ pub extern "C" fn station_remove(
     root: u32,
 ) -> u64
     ensures { (active_head : ℕ) → Gives result
-        (after hashes parents sequences counts flags tips tails missing requested arrivals connected)
+        (tables_of hashes.new parents.new sequences.new counts.new flags.new
+        tips.new tails.new missing.new requested.new arrivals.new connected.new)
         (remove_rule
-        (state_of (before hashes parents sequences counts flags tips tails missing requested arrivals connected) active_head)
+        (state_of (tables_of hashes.old parents.old sequences.old counts.old flags.old
+        tips.old tails.old missing.old requested.old arrivals.old connected.old) active_head)
         root) }
 {
     removed_number(remove(
@@ -113,9 +117,11 @@ pub extern "C" fn station_under(
     highest: &mut [u32],
 ) -> u64
     ensures { (active_head : ℕ) → Hangs result highest
-        (after hashes parents sequences counts flags tips tails missing requested arrivals connected)
+        (tables_of hashes.now parents.now sequences.now counts.now flags.now
+        tips.now tails.now missing.now requested.now arrivals.now connected.now)
         (under_rule
-        (state_of (before hashes parents sequences counts flags tips tails missing requested arrivals connected) active_head)
+        (state_of (tables_of hashes.now parents.now sequences.now counts.now flags.now
+        tips.now tails.now missing.now requested.now arrivals.now connected.now) active_head)
         slot) }
 {
     hanging_number(

@@ -1,6 +1,6 @@
 // Admit's added step: heads whose tail has got a parent are worked out again.
 ghost use Rattle.std.specs.Prelude.{◌≡◌};
-ghost use Rattle.rules.specs.Records.{blocks_before, heads_before, heads_after, before, after};
+ghost use Rattle.rules.specs.Records.{blocks_of, heads_of, tables_of};
 ghost use Rattle.rules.specs.Admission.{outgrown, refresh_outgrown, refresh_tails};
 
 use all_caches::refresh_head;
@@ -44,9 +44,9 @@ fn refresh_outgrown(
     connected: &mut [u8],
     head: HeadSlot,
 )
-    ensures { heads_after tips tails missing requested arrivals connected
-        ≡ refresh_outgrown (blocks_before hashes parents sequences counts flags) head.0
-        (heads_before tips tails missing requested arrivals connected) }
+    ensures { heads_of tips.now tails.new missing.new requested.new arrivals.now connected.new
+        ≡ refresh_outgrown (blocks_of hashes.now parents.now sequences.now counts.now flags.now) head.0
+        (heads_of tips.now tails.old missing.old requested.old arrivals.now connected.old) }
 {
     if has_outgrown(parents, sequences, tips, tails, connected, head) {
         let tip = BlockSlot(word_at(tips, head.0));
@@ -70,8 +70,10 @@ pub fn refresh_tails(
     arrivals: &[u64],
     connected: &mut [u8],
 )
-    ensures { after hashes parents sequences counts flags tips tails missing requested arrivals connected
-        ≡ refresh_tails (before hashes parents sequences counts flags tips tails missing requested arrivals connected) }
+    ensures { tables_of hashes.now parents.now sequences.now counts.now flags.now
+        tips.now tails.new missing.new requested.new arrivals.now connected.new
+        ≡ refresh_tails (tables_of hashes.now parents.now sequences.now counts.now flags.now
+        tips.now tails.old missing.old requested.old arrivals.now connected.old) }
 {
     let m = slots(tips);
     let mut k: u32 = 0;

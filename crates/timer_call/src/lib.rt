@@ -1,7 +1,7 @@
 // Timer, and the earliest deadline.
 ghost use Rattle.std.specs.Prelude.{◌≡◌, ℕ};
 ghost use Rattle.rules.specs.Hashes.{zero_hash};
-ghost use Rattle.rules.specs.Records.{before, after};
+ghost use Rattle.rules.specs.Records.{tables_of};
 ghost use Rattle.rules.specs.Timer.{span_or};
 ghost use Rattle.rules.specs.Answers.{span_given, timer_said, hash_asked, deadline_said};
 ghost use Rattle.rules.specs.Calls.{state_of, timer as timer_rule, earliest_deadline, Does};
@@ -48,9 +48,11 @@ pub fn timer(
     span: Span,
 ) -> TimerAnswer
     ensures { ((active_head : ℕ) → Does (timer_said result)
-        (after hashes parents sequences counts flags tips tails missing requested arrivals connected)
+        (tables_of hashes.now parents.now sequences.now counts.now flags.now
+        tips.now tails.now missing.now requested.new arrivals.now connected.now)
         (timer_rule
-        (state_of (before hashes parents sequences counts flags tips tails missing requested arrivals connected) active_head)
+        (state_of (tables_of hashes.now parents.now sequences.now counts.now flags.now
+        tips.now tails.now missing.now requested.old arrivals.now connected.now) active_head)
         clock (span_given span)))
         × (result.missing ≡ hash_asked (timer_said result)) }
 {
@@ -98,9 +100,11 @@ pub fn earliest_deadline(
     span: Span,
 ) -> DeadlineAnswer
     ensures { (active_head : ℕ) → Does (deadline_said result)
-        (after hashes parents sequences counts flags tips tails missing requested arrivals connected)
+        (tables_of hashes.now parents.now sequences.now counts.now flags.now
+        tips.now tails.now missing.now requested.now arrivals.now connected.now)
         (earliest_deadline
-        (state_of (before hashes parents sequences counts flags tips tails missing requested arrivals connected) active_head)
+        (state_of (tables_of hashes.now parents.now sequences.now counts.now flags.now
+        tips.now tails.now missing.now requested.now arrivals.now connected.now) active_head)
         (span_given span)) }
 {
     if !is_shaped(

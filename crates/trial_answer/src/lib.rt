@@ -1,5 +1,5 @@
 // A line's call on the tables that it is given, and the line that it prints, in a lent buffer from a place on.
-ghost use Rattle.rules.specs.Records.{before, after};
+ghost use Rattle.rules.specs.Records.{tables_of};
 ghost use Rattle.rules.specs.Calls.{state_of};
 ghost use Rattle.trial_calls.specs.Calling.{Tells};
 
@@ -29,9 +29,11 @@ pub fn answer(
     at: usize,
 ) -> Told
     ensures { Tells
-        (state_of (before hashes parents sequences counts flags tips tails missing requested arrivals connected) active.0) line
+        (state_of (tables_of hashes.old parents.old sequences.old counts.old flags.old
+        tips.old tails.old missing.old requested.old arrivals.old connected.old) active.0) line
         out.old at
-        (state_of (after hashes parents sequences counts flags tips tails missing requested arrivals connected) result.active.0)
+        (state_of (tables_of hashes.new parents.new sequences.new counts.new flags.new
+        tips.new tails.new missing.new requested.new arrivals.new connected.new) result.active.0)
         result.renewed out.new result.at }
 {
     match line {

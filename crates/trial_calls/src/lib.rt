@@ -3,7 +3,7 @@
 mod screen;
 
 ghost use Rattle.std.specs.Prelude.{◌≡◌, not, ℕ};
-ghost use Rattle.rules.specs.Records.{Tables, before, after};
+ghost use Rattle.rules.specs.Records.{Tables, tables_of};
 ghost use Rattle.rules.specs.Answers.{outcome_said};
 ghost use Rattle.rules.specs.Calls.{state_of};
 ghost use Rattle.trial_lines.specs.declared.Line.TheVariants.{Fresh, Admit, Promote, Remove, Under, Screen, Timer, Restart, Unread};
@@ -25,7 +25,7 @@ use trial_lines::lines::letter_line;
 use under_call::under;
 
 // What the record holds after a line, whether the line brings new tables, and the place after what it prints.
-#[derive(Drop)]
+#[derive(Clone, Copy)]
 pub struct Told {
     pub active: BlockSlot,
     pub renewed: bool,
@@ -59,9 +59,11 @@ pub fn tell_fresh(
     at: usize,
 ) -> Told
     ensures { (n m : ℕ)
-        → Tells (state_of (before hashes parents sequences counts flags tips tails missing requested arrivals connected) active.0)
+        → Tells (state_of (tables_of hashes.old parents.old sequences.old counts.old flags.old
+        tips.old tails.old missing.old requested.old arrivals.old connected.old) active.0)
         (Fresh n m) out.old at
-        (state_of (after hashes parents sequences counts flags tips tails missing requested arrivals connected) result.active.0)
+        (state_of (tables_of hashes.new parents.new sequences.new counts.new flags.new
+        tips.new tails.new missing.new requested.new arrivals.new connected.new) result.active.0)
         result.renewed out.new result.at }
 {
     let recorded = fresh(
@@ -99,9 +101,11 @@ pub fn tell_admit(
     at: usize,
 ) -> Told
     ensures { Tells
-        (state_of (before hashes parents sequences counts flags tips tails missing requested arrivals connected) active.0)
+        (state_of (tables_of hashes.old parents.old sequences.old counts.old flags.old
+        tips.old tails.old missing.old requested.old arrivals.old connected.old) active.0)
         (Admit sequence hash previous arrival) out.old at
-        (state_of (after hashes parents sequences counts flags tips tails missing requested arrivals connected) result.active.0)
+        (state_of (tables_of hashes.new parents.new sequences.new counts.new flags.new
+        tips.new tails.new missing.new requested.new arrivals.new connected.new) result.active.0)
         result.renewed out.new result.at }
 {
     let own = [hash; 32];
@@ -136,9 +140,11 @@ pub fn tell_promote(
     at: usize,
 ) -> Told
     ensures { Tells
-        (state_of (before hashes parents sequences counts flags tips tails missing requested arrivals connected) active.0)
+        (state_of (tables_of hashes.now parents.now sequences.now counts.now flags.old
+        tips.now tails.old missing.old requested.old arrivals.now connected.old) active.0)
         (Promote slot) out.old at
-        (state_of (after hashes parents sequences counts flags tips tails missing requested arrivals connected) result.active.0)
+        (state_of (tables_of hashes.now parents.now sequences.now counts.now flags.new
+        tips.now tails.new missing.new requested.new arrivals.now connected.new) result.active.0)
         result.renewed out.new result.at }
 {
     let recorded = promote(
@@ -173,9 +179,11 @@ pub fn tell_remove(
     at: usize,
 ) -> Told
     ensures { Tells
-        (state_of (before hashes parents sequences counts flags tips tails missing requested arrivals connected) active.0)
+        (state_of (tables_of hashes.old parents.old sequences.old counts.old flags.old
+        tips.old tails.old missing.old requested.old arrivals.old connected.old) active.0)
         (Remove slot) out.old at
-        (state_of (after hashes parents sequences counts flags tips tails missing requested arrivals connected) result.active.0)
+        (state_of (tables_of hashes.new parents.new sequences.new counts.new flags.new
+        tips.new tails.new missing.new requested.new arrivals.new connected.new) result.active.0)
         result.renewed out.new result.at }
 {
     let answer = remove(
@@ -208,9 +216,11 @@ pub fn tell_under(
     at: usize,
 ) -> Told
     ensures { Tells
-        (state_of (before hashes parents sequences counts flags tips tails missing requested arrivals connected) active.0)
+        (state_of (tables_of hashes.now parents.now sequences.now counts.now flags.now
+        tips.now tails.now missing.now requested.now arrivals.now connected.now) active.0)
         (Under slot) out.old at
-        (state_of (after hashes parents sequences counts flags tips tails missing requested arrivals connected) result.active.0)
+        (state_of (tables_of hashes.now parents.now sequences.now counts.now flags.now
+        tips.now tails.now missing.now requested.now arrivals.now connected.now) result.active.0)
         result.renewed out.new result.at }
 {
     let answer = under(
@@ -242,9 +252,11 @@ pub fn tell_screen(
     at: usize,
 ) -> Told
     ensures { Tells
-        (state_of (before hashes parents sequences counts flags tips tails missing requested arrivals connected) active.0)
+        (state_of (tables_of hashes.now parents.now sequences.now counts.now flags.now
+        tips.now tails.now missing.now requested.now arrivals.now connected.now) active.0)
         Screen out.old at
-        (state_of (after hashes parents sequences counts flags tips tails missing requested arrivals connected) result.active.0)
+        (state_of (tables_of hashes.now parents.now sequences.now counts.now flags.now
+        tips.now tails.now missing.now requested.now arrivals.now connected.now) result.active.0)
         result.renewed out.new result.at }
 {
     let mut keys = [0u64; 64];
@@ -290,9 +302,11 @@ pub fn tell_timer(
     at: usize,
 ) -> Told
     ensures { Tells
-        (state_of (before hashes parents sequences counts flags tips tails missing requested arrivals connected) active.0)
+        (state_of (tables_of hashes.now parents.now sequences.now counts.now flags.now
+        tips.now tails.now missing.now requested.old arrivals.now connected.now) active.0)
         (Timer clock retry) out.old at
-        (state_of (after hashes parents sequences counts flags tips tails missing requested arrivals connected) result.active.0)
+        (state_of (tables_of hashes.now parents.now sequences.now counts.now flags.now
+        tips.now tails.now missing.now requested.new arrivals.now connected.now) result.active.0)
         result.renewed out.new result.at }
 {
     let answer = timer(
@@ -338,9 +352,11 @@ pub fn tell_restart(
     at: usize,
 ) -> Told
     ensures { Tells
-        (state_of (before hashes parents sequences counts flags tips tails missing requested arrivals connected) active.0)
+        (state_of (tables_of hashes.old parents.old sequences.old counts.old flags.old
+        tips.old tails.old missing.old requested.old arrivals.old connected.old) active.0)
         (Restart clock) out.old at
-        (state_of (after hashes parents sequences counts flags tips tails missing requested arrivals connected) result.active.0)
+        (state_of (tables_of hashes.new parents.new sequences.new counts.new flags.new
+        tips.new tails.new missing.new requested.new arrivals.new connected.new) result.active.0)
         result.renewed out.new result.at }
 {
     let answer = restart(

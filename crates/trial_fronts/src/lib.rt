@@ -1,7 +1,7 @@
 // The fronts of lent arrays, as many slots as are in use, lent on: to a line's call, and to the listing.
 ghost use Rattle.std.specs.Prelude.{◌≡◌, length, take};
 ghost use Rattle.std.proofs.lemmas.List.Edits.{sets};
-ghost use Rattle.rules.specs.Records.{before, after};
+ghost use Rattle.rules.specs.Records.{tables_of};
 ghost use Rattle.trial_lines.specs.Writing.{place};
 ghost use Rattle.trial_listing.specs.Listing.{listing_of};
 ghost use Rattle.trial_fronts.specs.Fronts.{Cut, TellsFront};
@@ -14,7 +14,7 @@ use trial_lines::Line;
 use trial_listing::listing;
 
 // Where the front of each array ends.
-#[derive(Drop)]
+#[derive(Clone, Copy)]
 struct Ends {
     hashes: usize,
     parents: usize,
@@ -45,7 +45,8 @@ fn cut(
     n: u32,
     m: u32,
 ) -> Ends
-    ensures { Cut n m result (before hashes parents sequences counts flags tips tails missing requested arrivals connected) }
+    ensures { Cut n m result (tables_of hashes.now parents.now sequences.now counts.now flags.now
+        tips.now tails.now missing.now requested.now arrivals.now connected.now) }
 {
     let blocks = n as usize;
     let heads = m as usize;
@@ -84,9 +85,11 @@ pub fn answer_front(
     out: &mut [u8],
     at: usize,
 ) -> Told
-    ensures { TellsFront n m (before hashes parents sequences counts flags tips tails missing requested arrivals connected)
+    ensures { TellsFront n m (tables_of hashes.old parents.old sequences.old counts.old flags.old
+        tips.old tails.old missing.old requested.old arrivals.old connected.old)
         active.0 line out.old at
-        (after hashes parents sequences counts flags tips tails missing requested arrivals connected) result.active.0 result.renewed
+        (tables_of hashes.new parents.new sequences.new counts.new flags.new
+        tips.new tails.new missing.new requested.new arrivals.new connected.new) result.active.0 result.renewed
         out.new result.at }
 {
     let end = cut(

@@ -16,7 +16,7 @@ use rules::{BlockSlot, Sequence};
 pub const CHUNK: usize = 2048;
 
 // What a line asks for. A hash is the byte that it has 32 times.
-#[derive(Drop)]
+#[derive(Clone, Copy)]
 pub enum Line {
     Fresh(u32, u32),
     Admit(Sequence, u8, u8, u64),
@@ -30,21 +30,21 @@ pub enum Line {
 }
 
 // A time, or none.
-#[derive(Drop)]
+#[derive(Clone, Copy)]
 pub enum Time {
     Value(u64),
     Unread,
 }
 
 // A number of 32 bits, or none.
-#[derive(Drop)]
+#[derive(Clone, Copy)]
 pub enum Word {
     Value(u32),
     Unread,
 }
 
 // The byte of a hash or the value of a digit, or none.
-#[derive(Drop)]
+#[derive(Clone, Copy)]
 pub enum Byte {
     Value(u8),
     Unread,

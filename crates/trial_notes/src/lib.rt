@@ -13,7 +13,7 @@ use lines::{end_last, take_bytes};
 use trial_lines::CHUNK;
 
 // Why a line cannot be read. A word has 32 bits, a time 64.
-#[derive(Drop)]
+#[derive(Clone, Copy)]
 pub enum Reason {
     TooLong,
     Empty,
@@ -33,7 +33,7 @@ pub enum Reason {
 }
 
 // What is wrong with a line, if anything is.
-#[derive(Drop)]
+#[derive(Clone, Copy)]
 pub enum Fault {
     Nothing,
     Is(Reason),
@@ -43,7 +43,7 @@ pub enum Fault {
 pub const ROOM: usize = 196608;
 
 // The number of the line that comes, and how many of its bytes have come, 129 for too many.
-#[derive(Drop)]
+#[derive(Clone, Copy)]
 pub struct Noting {
     pub number: u64,
     pub begun: usize,
@@ -62,7 +62,7 @@ impl Noting {
 }
 
 // The next line, and the place after the notes.
-#[derive(Drop)]
+#[derive(Clone, Copy)]
 pub struct Noted {
     pub noting: Noting,
     pub at: usize,

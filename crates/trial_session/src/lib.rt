@@ -3,7 +3,7 @@
 mod lines;
 
 ghost use Rattle.std.specs.Prelude.{◌≡◌, take};
-ghost use Rattle.rules.specs.Records.{before, after};
+ghost use Rattle.rules.specs.Records.{tables_of};
 ghost use Rattle.trial_lines.specs.Begun.{chunk_most};
 ghost use Rattle.trial_session.specs.Held.{held_of, new_trial, Feeds, Closes};
 
@@ -17,7 +17,7 @@ use trial_lines::CHUNK;
 pub const ROOM: usize = 2426016;
 
 // How many slots of the arrays are in use, the record, and how many bytes of a line have come, 129 for too many.
-#[derive(Drop)]
+#[derive(Clone, Copy)]
 pub struct Trial {
     pub n: u32,
     pub m: u32,
@@ -40,7 +40,7 @@ impl Trial {
 }
 
 // A trial, and the place after what it printed.
-#[derive(Drop)]
+#[derive(Clone, Copy)]
 pub struct Printed {
     pub trial: Trial,
     pub at: usize,
@@ -65,9 +65,11 @@ pub fn feed(
     out: &mut [u8; ROOM],
 ) -> Printed
     ensures { Feeds
-        (held_of (before hashes parents sequences counts flags tips tails missing requested arrivals connected) line.old
+        (held_of (tables_of hashes.old parents.old sequences.old counts.old flags.old
+        tips.old tails.old missing.old requested.old arrivals.old connected.old) line.old
         trial) (take chunk_most chunk.now) out.old
-        (held_of (after hashes parents sequences counts flags tips tails missing requested arrivals connected) line.new
+        (held_of (tables_of hashes.new parents.new sequences.new counts.new flags.new
+        tips.new tails.new missing.new requested.new arrivals.new connected.new) line.new
         result.trial) out.new result.at }
 {
     take_bytes(
@@ -94,8 +96,10 @@ pub fn close(
     out: &mut [u8; ROOM],
 ) -> usize
     ensures { Closes
-        (held_of (before hashes parents sequences counts flags tips tails missing requested arrivals connected) line.now trial)
-        out.old (after hashes parents sequences counts flags tips tails missing requested arrivals connected)
+        (held_of (tables_of hashes.old parents.old sequences.old counts.old flags.old
+        tips.old tails.old missing.old requested.old arrivals.old connected.old) line.now trial)
+        out.old (tables_of hashes.new parents.new sequences.new counts.new flags.new
+        tips.new tails.new missing.new requested.new arrivals.new connected.new)
         out.new result }
 {
     let last = end_last(

@@ -1,7 +1,7 @@
 // Bytes joined to lines, and lines done.
 ghost use Rattle.std.specs.Prelude.{◌≡◌, List, ℕ, min, leb, length, take};
 ghost use Rattle.rules.specs.Common.{if◌then◌else◌};
-ghost use Rattle.rules.specs.Records.{before, after};
+ghost use Rattle.rules.specs.Records.{tables_of};
 ghost use Rattle.trial_lines.specs.Begun.{so_far, too_long, line_begun};
 ghost use Rattle.trial_session.specs.Held.{held_of, asked as asked_rule, sizes_after, DoesLine, TakesByte, TakesBytes, EndsLast};
 
@@ -87,9 +87,11 @@ fn end_line(
     at: usize,
 ) -> Printed
     ensures { (bytes : List ℕ)
-        → DoesLine (held_of (before hashes parents sequences counts flags tips tails missing requested arrivals connected) bytes trial) line
+        → DoesLine (held_of (tables_of hashes.old parents.old sequences.old counts.old flags.old
+        tips.old tails.old missing.old requested.old arrivals.old connected.old) bytes trial) line
         out.old at
-        (held_of (after hashes parents sequences counts flags tips tails missing requested arrivals connected) bytes result.trial)
+        (held_of (tables_of hashes.new parents.new sequences.new counts.new flags.new
+        tips.new tails.new missing.new requested.new arrivals.new connected.new) bytes result.trial)
         out.new result.at }
 {
     let sizes = asked(trial, line);
@@ -139,9 +141,11 @@ fn take_byte(
     at: usize,
 ) -> Printed
     ensures { TakesByte
-        (held_of (before hashes parents sequences counts flags tips tails missing requested arrivals connected) line.old
+        (held_of (tables_of hashes.old parents.old sequences.old counts.old flags.old
+        tips.old tails.old missing.old requested.old arrivals.old connected.old) line.old
         trial) byte out.old at
-        (held_of (after hashes parents sequences counts flags tips tails missing requested arrivals connected) line.new
+        (held_of (tables_of hashes.new parents.new sequences.new counts.new flags.new
+        tips.new tails.new missing.new requested.new arrivals.new connected.new) line.new
         result.trial) out.new result.at }
 {
     if byte == b'\n' {
@@ -182,9 +186,11 @@ pub fn take_bytes(
     out: &mut [u8],
 ) -> Printed
     ensures { TakesBytes
-        (held_of (before hashes parents sequences counts flags tips tails missing requested arrivals connected) line.old
+        (held_of (tables_of hashes.old parents.old sequences.old counts.old flags.old
+        tips.old tails.old missing.old requested.old arrivals.old connected.old) line.old
         trial) (take most bytes.now) out.old
-        (held_of (after hashes parents sequences counts flags tips tails missing requested arrivals connected) line.new
+        (held_of (tables_of hashes.new parents.new sequences.new counts.new flags.new
+        tips.new tails.new missing.new requested.new arrivals.new connected.new) line.new
         result.trial) out.new result.at }
 {
     let n = least(most, bytes.len());
@@ -232,9 +238,11 @@ pub fn end_last(
     out: &mut [u8],
 ) -> Printed
     ensures { EndsLast
-        (held_of (before hashes parents sequences counts flags tips tails missing requested arrivals connected) line.now
+        (held_of (tables_of hashes.old parents.old sequences.old counts.old flags.old
+        tips.old tails.old missing.old requested.old arrivals.old connected.old) line.now
         trial) out.old
-        (held_of (after hashes parents sequences counts flags tips tails missing requested arrivals connected) line.now
+        (held_of (tables_of hashes.new parents.new sequences.new counts.new flags.new
+        tips.new tails.new missing.new requested.new arrivals.new connected.new) line.now
         result.trial) out.new result.at }
 {
     if trial.begun == 0 {

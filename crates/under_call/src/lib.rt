@@ -1,7 +1,7 @@
 // Under: how much hangs under a block. The children of every block are listed in one pass; then it goes down the lists, from a block to its
 // children and from those to theirs, and counts a block at each level at which it meets it.
 ghost use Rattle.std.specs.Prelude.{◌≡◌, true, List, ℕ, ◌+◌, ◌≤◌, max, length, get_or, set};
-ghost use Rattle.rules.specs.Records.{NONE, slots_of, sequence_at, parent_at, occupied, before, after};
+ghost use Rattle.rules.specs.Records.{NONE, slots_of, sequence_at, parent_at, occupied, tables_of};
 ghost use Rattle.rules.specs.Under.{hanging, highest as highest_rule};
 ghost use Rattle.rules.specs.Answers.{hanging_said};
 ghost use Rattle.rules.specs.Calls.{state_of, max_blocks, under as under_rule, Does};
@@ -13,7 +13,7 @@ use rules::{BlockSlot, Hanging, Refusal, Sequence};
 use shape::is_shaped;
 
 // How many blocks were met, and the highest sequence among them.
-#[derive(Drop)]
+#[derive(Clone, Copy)]
 struct Met {
     blocks: u32,
     highest: Sequence,
@@ -129,9 +129,11 @@ pub fn under(
     slot: BlockSlot,
 ) -> Hanging
     ensures { (active_head : ℕ) → Does (hanging_said result)
-        (after hashes parents sequences counts flags tips tails missing requested arrivals connected)
+        (tables_of hashes.now parents.now sequences.now counts.now flags.now
+        tips.now tails.now missing.now requested.now arrivals.now connected.now)
         (under_rule
-        (state_of (before hashes parents sequences counts flags tips tails missing requested arrivals connected) active_head)
+        (state_of (tables_of hashes.now parents.now sequences.now counts.now flags.now
+        tips.now tails.now missing.now requested.now arrivals.now connected.now) active_head)
         slot.0) }
 {
     if !is_shaped(

@@ -1,4 +1,6 @@
 // The caches of heads with no arriving block: of one head, and of all.
+#![tactic(auto)]
+
 ghost use Rattle.std.specs.Prelude.{◌≡◌};
 ghost use Rattle.rules.specs.Hashes.{zero_hash};
 ghost use Rattle.rules.specs.Records.{NONE, caches_of};

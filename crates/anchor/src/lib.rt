@@ -1,4 +1,6 @@
 // Where the parent walk of a tip ends.
+#![tactic(auto)]
+
 ghost use Rattle.std.specs.Prelude.{◌≡◌};
 ghost use Rattle.rules.specs.Anchor.{locate_anchor};
 ghost use Rattle.rules.specs.Answers.{anchor_located};

@@ -1,4 +1,6 @@
 // What a block holds: the record, its count and its status.
+#![tactic(auto)]
+
 ghost use Rattle.std.specs.Prelude.{◌≡◌};
 ghost use Rattle.rules.specs.Records.{status_number, status_of, blocks_of};
 ghost use Rattle.rules.specs.BlockTable.{get as get_rule, head_ref_count, status_at};

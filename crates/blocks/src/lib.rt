@@ -1,5 +1,7 @@
 // The block table, looked into: port of src/blocks.rs over lent buffers, a slice a field, on every table and with nothing asked
 // of the caller. What a block holds and what changes it is in the crates above; its mark_subtree is `subtree`.
+#![tactic(auto)]
+
 ghost use Rattle.std.specs.Prelude.{◌≡◌};
 ghost use Rattle.rules.specs.Records.{occupied, active};
 ghost use Rattle.rules.specs.BlockTable.{find as find_rule, next_free, find_parent, walks_to_active_chain};

@@ -1,4 +1,6 @@
 // The caches of a head: flag, anchor, missing hash and request time, from the walk of its tip.
+#![tactic(auto)]
+
 ghost use Rattle.std.specs.Prelude.{◌≡◌};
 ghost use Rattle.rules.specs.Records.{caches_of};
 ghost use Rattle.rules.specs.Caches.{connection_kept, tail_kept, recompute};

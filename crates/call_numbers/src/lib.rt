@@ -1,4 +1,6 @@
 // The numbers that stand for the answers of the calls.
+#![tactic(auto)]
+
 ghost use Rattle.std.specs.Prelude.{◌≡◌, ◌*◌};
 ghost use Rattle.rules.specs.Answers.{refusal_number, outcome_said, admitted_said, removed_said, hanging_said, timed_said, deadline_said, span_given};
 ghost use Rattle.call_numbers.specs.Numbers.{answer_number, screened_number, claimed_to, wanted_to, time_to, highest_to, span_from};

@@ -1,6 +1,6 @@
 -- Where a value is next.
 use Rattle.std.specs.Prelude.{Bool, not, ◌&&◌, List, ℕ, eqb, ltb, get_or}
-use Rattle.std.proofs.Math.Option.{Option, none, some}
+use Rattle.std.proofs.Math.Option.{none, some}
 use Rattle.rules.specs.Common.{lowest}
 use Rattle.rules.specs.Records.{NONE, slots_of}
 

@@ -1,5 +1,7 @@
 // Total reads and writes of lent buffers: past the end a read gives what an empty record has, and a write does nothing.
 // Hashes by value: read, written, and compared from the first byte on.
+#![tactic(auto)]
+
 ghost use Rattle.std.specs.Prelude.{◌≡◌, ◌≢◌, true, ℕ, ◌+◌, ◌<◌, ◌≤◌, min, get_or, set};
 ghost use Rattle.cells.specs.Places.{next_at};
 ghost use Rattle.rules.specs.Hashes.{hash_at, first_byte, put_hash, same_hash, hash_less};

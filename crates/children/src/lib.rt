@@ -1,4 +1,6 @@
 // Whether a block has children.
+#![tactic(auto)]
+
 ghost use Rattle.std.specs.Prelude.{◌≡◌, not};
 ghost use Rattle.rules.specs.BlockTable.{child_of, childless};
 

@@ -1,4 +1,6 @@
 // Listed blocks become empty slots.
+#![tactic(auto)]
+
 ghost use Rattle.std.specs.Prelude.{◌≡◌};
 ghost use Rattle.rules.specs.Records.{blocks_of};
 ghost use Rattle.rules.specs.Removal.{free_all};

@@ -1,4 +1,6 @@
 // Which heads lost their tip, and which of them moves to the root's parent.
+#![tactic(auto)]
+
 ghost use Rattle.std.specs.Prelude.{◌≡◌};
 ghost use Rattle.rules.specs.Common.{is_some, lowest};
 ghost use Rattle.rules.specs.Records.{slots_of};

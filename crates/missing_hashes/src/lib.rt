@@ -1,4 +1,6 @@
 // The missing hash of a head.
+#![tactic(auto)]
+
 ghost use Rattle.std.specs.Prelude.{◌≡◌, ◌*◌, take, drop};
 ghost use Rattle.rules.specs.Hashes.{hash_length};
 ghost use Rattle.rules.specs.Caches.{waits_at, knowing as knowing_rule, missing_part, missing_kept};

@@ -1,4 +1,6 @@
 // The numbers that stand for answers: a refusal's, NONE_REF for none, 1 and 0 for yes and no.
+#![tactic(auto)]
+
 ghost use Rattle.std.specs.Prelude.{◌≡◌};
 ghost use Rattle.rules.specs.Records.{status_number};
 ghost use Rattle.rules.specs.Answers.{refusal_number, slot_found, head_found, count_got, status_got, anchor_located};

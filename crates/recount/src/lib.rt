@@ -1,4 +1,6 @@
 // The count of every block from its children, in three passes over the slots.
+#![tactic(auto)]
+
 ghost use Rattle.std.specs.Prelude.{◌≡◌};
 ghost use Rattle.rules.specs.Common.{in_order};
 ghost use Rattle.rules.specs.Records.{slots_of};

@@ -1,4 +1,6 @@
 // Remove.
+#![tactic(auto)]
+
 ghost use Rattle.std.specs.Prelude.{◌≡◌, not, ℕ, min};
 ghost use Rattle.rules.specs.Common.{if◌then◌else◌};
 ghost use Rattle.rules.specs.Records.{parent_at, occupied, tables_of};

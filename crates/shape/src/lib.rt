@@ -1,4 +1,6 @@
 // Whether the buffers fit one another, and n and m are in range.
+#![tactic(auto)]
+
 ghost use Rattle.std.specs.Prelude.{◌≡◌, length};
 ghost use Rattle.rules.specs.Records.{blocks_fit, heads_fit, blocks_of, heads_of, tables_of};
 ghost use Rattle.rules.specs.Calls.{shaped};

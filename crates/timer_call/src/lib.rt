@@ -1,4 +1,6 @@
 // Timer, and the earliest deadline.
+#![tactic(auto)]
+
 ghost use Rattle.std.specs.Prelude.{◌≡◌, ℕ};
 ghost use Rattle.rules.specs.Hashes.{zero_hash};
 ghost use Rattle.rules.specs.Records.{tables_of};

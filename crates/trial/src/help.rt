@@ -1,11 +1,11 @@
 // What `--help` prints.
-use crate::streams::write_whole;
-use libc::STDOUT_FILENO;
+use crate::streams::{fail, write_whole};
 
 // Prints how the trial is called, what its lines are and what each prints.
-pub fn help() {
-    let is_written = write_whole(
-        STDOUT_FILENO,
+pub fn help(rt: &HostRuntime) {
+    let written = write_whole(
+        rt,
+        &mut rt.stdout(),
         b"trial          reads lines of calls from standard input
 trial FILE     reads them from a file
 trial --help   prints this
@@ -54,7 +54,7 @@ the listing. The exit status is 0 all the same, so a script looks at standard
 error.
 ",
     );
-    if !is_written {
-        os::fail(b"standard output");
+    if let Err(error) = written {
+        fail(rt, b"standard output", &error);
     }
 }

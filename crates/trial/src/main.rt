@@ -1,52 +1,62 @@
 // A trial: lines of calls from standard input or from a file, what they print to standard output, what is wrong to standard error.
+#![tactic(auto)]
+
 mod help;
 mod run;
 mod streams;
 
 use help::help;
 use run::run;
-use streams::write_whole;
+use std::env::{Env, FillError};
+use std::fs;
+use streams::{fail, write_whole};
 
-fn tell(text: &[u8]) {
-    write_whole(libc::STDERR_FILENO, text);
+// The longest name of a file, and a zero after it.
+const NAME: usize = 4096;
+
+fn tell(rt: &HostRuntime, text: &str) {
+    let _written = write_whole(rt, &mut rt.stderr(), text.as_bytes());
 }
 
-fn run_file(path: &[u8]) {
-    let fd = os::open_read(path);
-    if fd < 0 {
-        os::fail(path);
-        return;
+fn run_file(rt: &HostRuntime, path: &str) {
+    match fs::open(rt, path) {
+        Ok(file) => {
+            let mut file = file;
+            run(rt, &mut file, path.as_bytes());
+        }
+        Err(error) => fail(rt, path.as_bytes(), &error),
     }
-    run(fd, path);
-    libc::close(fd);
 }
 
 // A file whose name begins with `-` is given as `./-`.
-fn run_argument(argument: &[u8]) {
-    if check::same(argument, b"--help") {
-        help();
-    } else if cells::byte_at(argument, 0) == b'-' {
-        tell(b"trial: no such option; trial --help says what there is\n");
+fn run_argument(rt: &HostRuntime, argument: &str) {
+    if argument == "--help" {
+        help(rt);
+    } else if argument.starts_with('-') {
+        tell(
+            rt,
+            "trial: no such option; trial --help says what there is\n",
+        );
     } else {
-        run_file(argument);
+        run_file(rt, argument);
     }
 }
 
-fn main() {
-    let count = os::arg_count();
-    if count <= 1 {
-        run(libc::STDIN_FILENO, b"standard input");
+fn main(rt: HostRuntime) {
+    let mut name = [0u8; NAME];
+    if !matches!(rt.arg(2, &mut name), Err(FillError::NotPresent)) {
+        tell(
+            &rt,
+            "trial: more than one argument; trial --help says what there is\n",
+        );
         return;
     }
-    if count > 2 {
-        tell(b"trial: more than one argument; trial --help says what there is\n");
-        return;
+    match rt.arg(1, &mut name) {
+        Err(FillError::NotPresent) => run(&rt, &mut rt.stdin(), b"standard input"),
+        Err(FillError::TooLong) => tell(&rt, "trial: its argument: File name too long\n"),
+        Ok(length) => match str::from_utf8(&name[..length]) {
+            Ok(argument) => run_argument(&rt, argument),
+            Err(_) => tell(&rt, "trial: its argument: not UTF-8\n"),
+        },
     }
-    let mut argument = io::buffer();
-    let length = os::arg(1, &mut argument);
-    if os::errno() != 0 {
-        os::fail(b"trial: its argument");
-        return;
-    }
-    run_argument(&argument[0..length]);
 }

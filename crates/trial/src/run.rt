@@ -1,35 +1,40 @@
 // A trial from its first byte to its listing.
-use crate::streams::{read_some, write_whole};
-use libc::{STDERR_FILENO, STDOUT_FILENO};
+use crate::streams::{fail, read_some, write_whole};
+use std::io::Read;
 use trial_lines::CHUNK;
 use trial_notes::{Noting, note, note_last};
 use trial_session::{Trial, close, feed};
 
-fn write_front(fd: i32, bytes: &[u8], length: usize) -> bool {
+// The front of what was filled; where that is not whole, nothing.
+fn front(bytes: &[u8], length: usize) -> &[u8] {
     if length <= bytes.len() {
-        return write_whole(fd, &bytes[0..length]);
+        &bytes[..length]
+    } else {
+        &bytes[..0]
     }
-    false
 }
 
 // Writes what is printed; where that fails says so.
-fn say(out: &[u8; trial_session::ROOM], length: usize) -> bool {
-    let is_written = write_front(STDOUT_FILENO, out, length);
-    if !is_written {
-        os::fail(b"standard output");
+fn say(rt: &HostRuntime, out: &[u8; trial_session::ROOM], length: usize) -> bool {
+    let written = write_whole(rt, &mut rt.stdout(), front(out, length));
+    match written {
+        Ok(()) => true,
+        Err(error) => {
+            fail(rt, b"standard output", &error);
+            false
+        }
     }
-    is_written
 }
 
 // Writes notes. One that cannot be written is left out: its `?` is printed all the same, and there is nowhere to say more.
-fn tell(notes: &[u8; trial_notes::ROOM], length: usize) {
-    write_front(STDERR_FILENO, notes, length);
+fn tell(rt: &HostRuntime, notes: &[u8; trial_notes::ROOM], length: usize) {
+    let _written = write_whole(rt, &mut rt.stderr(), front(notes, length));
 }
 
 // What is read is fed to a session. What it prints goes to standard output and the notes to standard error, for each read before the next.
 // Where a read or a write fails the trial is left there, without its listing. Nothing says that the input ends, so the turns are counted
-// down from a number that no run uses up.
-pub fn run(fd: i32, name: &[u8]) {
+// up to a number that no run reaches.
+pub fn run(rt: &HostRuntime, from: &mut impl Read, name: &[u8]) {
     let mut hashes = [0u8; 32800];
     let mut parents = [0u32; 1025];
     let mut sequences = [0u32; 1025];
@@ -48,19 +53,18 @@ pub fn run(fd: i32, name: &[u8]) {
     let mut notes = [0u8; trial_notes::ROOM];
     let mut trial = Trial::start();
     let mut noting = Noting::start();
-    let mut turns = u64::MAX;
-    while turns > 0 {
-        turns -= 1;
-        let got = read_some(fd, &mut chunk);
-        if got < 0 {
-            os::fail(name);
-            return;
-        }
+    for _ in 0..u64::MAX {
+        let got = match read_some(rt, from, &mut chunk) {
+            Ok(got) => got,
+            Err(error) => {
+                fail(rt, name, &error);
+                return;
+            }
+        };
         if got == 0 {
             break;
         }
-        let n = io::count(got, &chunk);
-        let came = &chunk[0..n];
+        let came = &chunk[..got];
         let printed = feed(
             &mut hashes,
             &mut parents,
@@ -79,12 +83,12 @@ pub fn run(fd: i32, name: &[u8]) {
             &mut out,
         );
         trial = printed.trial;
-        if !say(&out, printed.at) {
+        if !say(rt, &out, printed.at) {
             return;
         }
         let noted = note(&mut noted_line, noting, came, &mut notes);
         noting = noted.noting;
-        tell(&notes, noted.at);
+        tell(rt, &notes, noted.at);
     }
     let last = note_last(&noted_line, noting, &mut notes);
     let length = close(
@@ -103,6 +107,6 @@ pub fn run(fd: i32, name: &[u8]) {
         trial,
         &mut out,
     );
-    tell(&notes, last);
-    say(&out, length);
+    tell(rt, &notes, last);
+    say(rt, &out, length);
 }

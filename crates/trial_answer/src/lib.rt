@@ -1,4 +1,6 @@
 // A line's call on the tables that it is given, and the line that it prints, in a lent buffer from a place on.
+#![tactic(auto)]
+
 ghost use Rattle.rules.specs.Records.{tables_of};
 ghost use Rattle.rules.specs.Calls.{state_of};
 ghost use Rattle.trial_calls.specs.Calling.{Tells};

@@ -25,8 +25,3 @@ module _ (sequences tips tails connected keys : List ℕ) where
   unfolding rows_in
   rows-turn l m o row key at i r s e names is f =
       rw (add-one, ← names, ← is) (rows_next l m o (rows_in sequences tips tails connected keys i) row at r s e f)
-
-  pub rows_all : (l m : List ℕ) (at i rows r : ℕ) → i ≡ rows
-      → Put l at (rows_lines (rows_in sequences tips tails connected keys i)) m r
-      → Put l at (rows_lines (rows_in sequences tips tails connected keys rows)) m r
-  rows_all l m at i rows r e p = rw e at p

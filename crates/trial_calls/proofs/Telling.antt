@@ -145,9 +145,3 @@ restart-tells {s} {clock} e f i = tells refl e f (sym (restart-keeps s clock)) r
 pub unread-tells : {s : State} {out written : List ℕ} {at next : ℕ} → Put out at (letter_line 63) written next → Tells s Unread out at s false written next
 unfolding called done_said renews
 unread-tells i = tells refl refl refl refl refl i
-
--- ---- the same of a line that is known
-
-pub tells-of : {s u : State} {line known : Line} {out written : List ℕ} {at next : ℕ} {renewed : Bool}
-    → line ≡ known → Tells s known out at u renewed written next → Tells s line out at u renewed written next
-tells-of e t = rw e t

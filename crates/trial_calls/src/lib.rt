@@ -1,5 +1,7 @@
 // The calls of a trial's lines, a function for each letter, on the tables that they are given. What each prints goes into a lent
 // buffer, from a place on.
+#![tactic(auto)]
+
 mod screen;
 
 ghost use Rattle.std.specs.Prelude.{◌≡◌, not, ℕ};

@@ -2,7 +2,7 @@
 use mathlib.Core.Path.{◌≡◌, sym, ap, ◌∙◌}
 use mathlib.Core.Bool.{Bool}
 use mathlib.Core.List.{List, [], ◌++◌, append-nil}
-use Prim.Native.Nat.{ℕ, ◌*◌, ◌-◌, ◌≤◌, min}
+use Prim.Native.Nat.{ℕ, ◌*◌, ◌-◌, min}
 use native.Mathlib.Omega.{arith}
 use lib.ListN.{length, take, drop, length-take, drop_of_length-le}
 use lib.Seq.{take_all, take_at, drop_at}
@@ -14,8 +14,7 @@ use Rattle.trial_lines.specs.declared.Line.{Line}
 use Rattle.trial_lines.proofs.Places.{Put}
 use Rattle.trial_calls.specs.Calling.{Tells}
 use Rattle.trial_listing.specs.Listing.{listing_of}
-use Rattle.trial_fronts.specs.Fronts.{front, behind, Cut, TellsFront}
-use Rattle.trial_fronts.specs.declared.Ends.{Ends}
+use Rattle.trial_fronts.specs.Fronts.{front, behind, TellsFront}
 
 -- ---- tables field by field
 
@@ -38,26 +37,6 @@ same_tables t u e =
     λ i. tables_of (e.hashes i) (e.parents i) (e.sequences i) (e.counts i) (e.flags i) (e.tips i) (e.tails i) (e.missing i) (e.requested i) (e.arrivals i) (e.connected i)
 
 -- ---- the front of one array, and of all
-
-pub front_length : (array : List ℕ) (e : ℕ) → e ≤ length array → e ≡ length (take e array)
-front_length array e h = omega (arith, length-take e array)
-
--- each end is within its array
-pub record Within (ends : Ends) (t : Tables) : Type 0 where
-  pub hashes : ends.hashes ≤ length t.blocks.hashes
-  pub parents : ends.parents ≤ length t.blocks.parents
-  pub sequences : ends.sequences ≤ length t.blocks.sequences
-  pub counts : ends.counts ≤ length t.blocks.counts
-  pub flags : ends.flags ≤ length t.blocks.flags
-  pub tips : ends.tips ≤ length t.heads.tips
-  pub tails : ends.tails ≤ length t.heads.tails
-  pub missing : ends.missing ≤ length t.heads.missing
-  pub requested : ends.requested ≤ length t.heads.requested
-  pub arrivals : ends.arrivals ≤ length t.heads.arrivals
-  pub connected : ends.connected ≤ length t.heads.connected
-
-pub within : {n m : ℕ} {ends : Ends} {t : Tables} → Cut n m ends t → Within ends t
-within c = record { hashes = omega (arith, c.hashes); parents = omega (arith, c.parents); sequences = omega (arith, c.sequences); counts = omega (arith, c.counts); flags = omega (arith, c.flags); tips = omega (arith, c.tips); tails = omega (arith, c.tails); missing = omega (arith, c.missing); requested = omega (arith, c.requested); arrivals = omega (arith, c.arrivals); connected = omega (arith, c.connected) }
 
 -- of an array the first k cells are lent and come back; the array is then `whole`
 pub record Came (k : ℕ) (array lent back whole : List ℕ) : Type 0 where

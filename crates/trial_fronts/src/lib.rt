@@ -1,4 +1,6 @@
 // The fronts of lent arrays, as many slots as are in use, lent on: to a line's call, and to the listing.
+#![tactic(auto)]
+
 ghost use Rattle.std.specs.Prelude.{◌≡◌, length, take};
 ghost use Rattle.std.proofs.lemmas.List.Edits.{sets};
 ghost use Rattle.rules.specs.Records.{tables_of};

@@ -11,7 +11,6 @@ use borrow.Author.Tests.{eq-eqb, ne_eqb, lt-ltb, le-ltb, le-leb, lt-leb, leb-tru
 use lib.Dec.{eqb, ltb, leb}
 use lib.ListN.{length, get_or, drop, drop_of_length-le}
 use lib.Seq.{drop-cons}
-use Rattle.rules.specs.Common.{if◌then◌else◌}
 use Rattle.rules.proofs.Splits.{split, and-true, some-not-none}
 use Rattle.trial_lines.specs.Reading.{field_length, is_digit, all_digits, value_from, number, hex_digit}
 

@@ -2,6 +2,8 @@
 // not exactly that is unread: an empty line, a doubled, leading or trailing space, a carriage return, a field missing
 // or too many, a hash that is not two lower-case hexadecimal digits, and a number that does not fit its field. Numbers
 // have 32 bits, times 64; leading zeros are read. The end of the line is no part of what is read here.
+#![tactic(auto)]
+
 pub mod answers;
 pub mod begun;
 pub mod fields;

@@ -1,5 +1,7 @@
 // A trial's session: bytes come in, what their lines print goes out, and arrays of the caller hold the tables between. They have one
 // slot more than a table may have, so that it is the call that refuses a larger size.
+#![tactic(auto)]
+
 mod lines;
 
 ghost use Rattle.std.specs.Prelude.{◌≡◌, take};

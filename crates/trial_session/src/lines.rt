@@ -14,6 +14,7 @@ use trial_lines::begun::join;
 use trial_lines::read::read_line;
 
 // The sizes that a line's call is given: its own if it is fresh.
+#[tactic(auto, unfolding(crate::specs::Held::asked))]
 fn asked(trial: Trial, line: Line) -> Trial
     ensures { result ≡ asked_rule trial line }
 {
@@ -39,6 +40,7 @@ fn asked(trial: Trial, line: Line) -> Trial
 }
 
 // New tables bring their sizes.
+#[tactic(auto, unfolding(crate::specs::Held::sizes_after))]
 fn after(trial: Trial, sizes: Trial, told: Told) -> Trial
     ensures { result ≡ sizes_after (if told.renewed then sizes else trial) told.active.0 }
 {

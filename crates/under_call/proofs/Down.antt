@@ -95,7 +95,8 @@ module _ (op : ℕ → ℕ → ℕ) (j : Joins op) (own : ℕ → ℕ) (parents 
   unfolding children_below
   from_last levels i zero l = sym (from-none levels (last_child parents sequences i 0) (last_none parents sequences i))
   from_last levels i (suc k) l = split (child_of parents sequences i k)
-      (λ e. rw (last-takes parents sequences i k e, from-child levels k (omega arith), (child-there parents sequences i k e).1) refl)
+      (λ e. rw (last-takes parents sequences i k e)
+      (ap (λ (x : ℕ). each levels x (suc k)) (sym (child-there parents sequences i k e).1) ∙ sym (from-child levels k (omega arith))))
       (λ e. rw (last-skips parents sequences i k e, each-skips levels i k e) (from_last levels i k (omega arith)))
 
   spent : (i k : ℕ) → each 0 i k ≡ 0

@@ -1,0 +1,7 @@
+-- The call, then its line.
+use Rattle.trial_calls.proofs.Telling.{admit-tells}
+use Rattle.trial_calls.proofs.tell_admit.Goals as goal
+
+pub returns : goal.returns
+returns c =
+    admit-tells c.admit-answer.ensures.answers c.admit-answer.ensures.leaves c.admit_line.ensures

@@ -1,4 +1,6 @@
 // The count of a block, changed and set.
+#![tactic(auto)]
+
 ghost use Rattle.std.specs.Prelude.{◌≡◌};
 ghost use Rattle.rules.specs.Records.{occupied};
 ghost use Rattle.rules.specs.BlockTable.{adjusted, adjusted_at, adjust_counts, set_occupied};

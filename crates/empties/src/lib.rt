@@ -1,4 +1,6 @@
 // Tables emptied: each cell holds what an empty record has there.
+#![tactic(auto)]
+
 ghost use Rattle.std.specs.Prelude.{◌≡◌, length, replicate};
 ghost use Rattle.rules.specs.Records.{blocks_emptied, heads_emptied, blocks_of, heads_of};
 

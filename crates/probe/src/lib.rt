@@ -1,5 +1,7 @@
 // C entry points of the functions below the calls, for the comparison with the Rust alone. Each passes its function's
 // equation on; an answer is a number: NONE_REF is none, and 1 and 0 are yes and no.
+#![tactic(auto)]
+
 ghost use Rattle.std.specs.Prelude.{◌≡◌, not, eqb};
 ghost use Rattle.query_numbers.specs.Numbers.{or_none, yes};
 ghost use Rattle.probe.specs.Numbers.{insertion_number, status_from};
@@ -20,6 +22,7 @@ use crate::numbers::inserted;
 use query_numbers::{counted, said};
 use rules::{Block, BlockSlot, BlockStatus, Sequence};
 
+#[tactic(auto, unfolding(crate::specs::Numbers::status_from))]
 fn status_from(number: u32) -> BlockStatus
     ensures { status_number result ≡ status_from number }
 {

@@ -37,6 +37,7 @@ pub fn any_slot(f: Found) -> u64
 }
 
 // The slot that a number stands for; NONE_REF is none.
+#[tactic(auto, unfolding(crate::specs::Numbers::slot_from))]
 pub fn slot_from(slot: u32) -> Found
     ensures { slot_found result ≡ slot_from slot }
 {

@@ -1,5 +1,7 @@
 // After blocks are freed: the heads that lost their tip, then the caches of all heads, then the counts. Port of the removal part
 // of src/chain_heads.rs.
+#![tactic(auto)]
+
 ghost use Rattle.std.specs.Prelude.{◌≡◌};
 ghost use Rattle.rules.specs.Common.{is_at};
 ghost use Rattle.rules.specs.Records.{heads_of, tables_of};

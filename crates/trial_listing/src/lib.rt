@@ -1,5 +1,7 @@
 // What a trial prints at the end: a line for each block and for each head that is there, in a lent buffer from a place on. What
 // is returned is the place after it. What has no room is dropped; 96 bytes a slot are enough.
+#![tactic(auto)]
+
 ghost use Rattle.std.specs.Prelude.{◌≡◌, length};
 ghost use Rattle.std.proofs.lemmas.List.Edits.{sets};
 ghost use Rattle.trial_lines.specs.Writing.{place};

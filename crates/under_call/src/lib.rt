@@ -1,5 +1,7 @@
 // Under: how much hangs under a block. The children of every block are listed in one pass; then it goes down the lists, from a block to its
 // children and from those to theirs, and counts a block at each level at which it meets it.
+#![tactic(auto)]
+
 ghost use Rattle.std.specs.Prelude.{◌≡◌, true, List, ℕ, ◌+◌, ◌≤◌, max, length, get_or, set};
 ghost use Rattle.rules.specs.Records.{NONE, slots_of, sequence_at, parent_at, occupied, tables_of};
 ghost use Rattle.rules.specs.Under.{hanging, highest as highest_rule};

@@ -18,7 +18,7 @@ fn main() {
     for name in ["probe", "station"] {
         let library = archive.join(format!("lib{name}.a"));
         if !library.exists() {
-            let message = format!("no {}: `rt staticlib {name}` makes it", library.display());
+            let message = format!("no {}: `tools/archive {name}` makes it", library.display());
             original::stop(&message);
         }
         println!("cargo::rerun-if-changed={}", library.display());

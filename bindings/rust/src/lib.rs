@@ -60,7 +60,7 @@
 //! The crate needs `alloc` and no `std`. The build script links `libstation.a` of the folder
 //! `STATION_LIB_DIR`. Where that is not set it takes the repository's, `target/staticlib/libstation.a`,
 //! and makes it anew where it is not made of the files under `crates/` as they are. That runs
-//! `rt staticlib station`, which proves the crates first and so takes minutes from nothing; without the
+//! `tools/archive`, which proves the crates first and so takes minutes from nothing; without the
 //! Rattle kit's `rt` on `PATH` it says so and stops.
 
 #![no_std]

@@ -1,4 +1,6 @@
 // The flags of a block: the active chain and the status.
+#![tactic(auto)]
+
 ghost use Rattle.std.specs.Prelude.{◌≡◌};
 ghost use Rattle.rules.specs.Records.{occupied, status_number, with_status, with_bit0};
 ghost use Rattle.rules.specs.BlockTable.{set_on_active_chain, set_status};

@@ -7,7 +7,6 @@ use Prim.Native.Nat.{ℕ, zero, suc, ◌<◌}
 use native.Mathlib.Omega.{arith}
 use borrow.Author.Tests.{eq-eqb, ne_eqb}
 use lib.Dec.{eqb}
-use Rattle.rules.specs.Common.{if◌then◌else◌}
 use Rattle.rules.specs.Records.{Blocks, parent_at, count_at, occupied, active, with_counts}
 use Rattle.rules.specs.BlockTable.{minus_one, adjusted, adjusted_at, adjust_counts, adjust, delete}
 use Rattle.rules.specs.Eviction.{evict_from}

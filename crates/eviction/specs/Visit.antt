@@ -1,5 +1,5 @@
 -- One visit of the eviction walk, as the loop makes it: what it leaves, and where the walk goes on.
-use Rattle.std.specs.Prelude.{◌≡◌, Bool, true, false, not, eqb}
+use Rattle.std.specs.Prelude.{◌≡◌, not, eqb}
 use Rattle.std.proofs.Math.Option.{Option, none, some}
 use Rattle.rules.specs.Kinds.{BlockSlot}
 use Rattle.rules.specs.Common.{if◌then◌else◌}

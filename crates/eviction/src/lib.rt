@@ -1,4 +1,6 @@
 // Eviction: which head goes, and which blocks go with it. Port of that part of src/chain_heads.rs.
+#![tactic(auto)]
+
 ghost use Rattle.std.specs.Prelude.{◌≡◌, true, not, ◌&&◌, ◌||◌, eqb, ltb};
 ghost use Rattle.rules.specs.Common.{if◌then◌else◌};
 ghost use Rattle.rules.specs.Hashes.{hash_at, hash_less};

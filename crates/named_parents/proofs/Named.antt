@@ -9,7 +9,7 @@ use lib.Dec.{eqb}
 use lib.ListN.{length, get_or, replicate, length-set, length-replicate, get_or-replicate}
 use lib.Seq.{get_or-set_same, get_or-set_other}
 use borrow.Author.Tests.{eq-eqb, ne_eqb, lt-ltb, le-ltb}
-use Rattle.rules.specs.Common.{if◌then◌else◌, count_below, in_order}
+use Rattle.rules.specs.Common.{count_below, in_order}
 use Rattle.rules.specs.Records.{slots_of, parent_at, occupied}
 use Rattle.rules.specs.BlockTable.{child_of, children, childless}
 use Rattle.rules.proofs.Splits.{split, same?, less?}

@@ -1,5 +1,5 @@
 -- Which slots are named as a parent: a byte a slot, 1 where an occupied block names it.
-use Rattle.std.specs.Prelude.{Bool, true, false, ◌&&◌, List, ℕ, eqb, ltb, length, get_or, set, replicate}
+use Rattle.std.specs.Prelude.{Bool, ◌&&◌, List, ℕ, eqb, ltb, length, get_or, set, replicate}
 use Rattle.rules.specs.Kinds.{BlockSlot}
 use Rattle.rules.specs.Common.{if◌then◌else◌, in_order}
 use Rattle.rules.specs.Records.{slots_of, parent_at, occupied}

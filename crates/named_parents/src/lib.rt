@@ -1,4 +1,6 @@
 // Which slots are named as a parent, found in one pass: a slot that no block names has no child.
+#![tactic(auto)]
+
 ghost use Rattle.std.specs.Prelude.{◌≡◌, length};
 ghost use Rattle.named_parents.specs.Named.{name_parent, named_parents, is_end as is_end_rule};
 

@@ -4,10 +4,8 @@ use mathlib.Core.List.{List}
 use Prim.Native.Nat.{ℕ, zero, suc, ◌+◌}
 use native.Mathlib.Numerals.{add-one}
 use native.Mathlib.Omega.{arith}
-use lib.ListN.{length, get_or, set, length-set}
+use lib.ListN.{length, get_or, set}
 use lib.Seq.{sets}
-use denote.Triple.Both.{Both}
-use denote.MutBor.{MutBor}
 use Rattle.rules.specs.Records.{Tables}
 use Rattle.rules.specs.Screen.{row_of}
 use Rattle.rules.specs.Answers.{Answer, screened_said}
@@ -18,9 +16,8 @@ use Rattle.rules.specs.declared.Screened.TheVariants.{Rows, Refused}
 use Rattle.rules.proofs.Cells.{sets-append}
 use Rattle.screen_call.specs.Keys.{head_in, rows_in, rows_of, Screens}
 use Rattle.screen_call.proofs.Places.{rows-length}
-use Rattle.call_numbers.specs.Numbers.{answer_number, screened_number, rows_to, Shows}
-use Rattle.station.specs.Rows.{filled, row_in, Lists}
-use Rattle.station.specs.declared.screen.Listed.{Listed}
+use Rattle.call_numbers.specs.Numbers.{answer_number, screened_number, rows_to}
+use Rattle.station.specs.Rows.{filled, Lists}
 
 -- ---- one by one
 
@@ -32,11 +29,6 @@ module _ (row : ℕ → HeadRow) where
   pub fill-next : (k : ℕ) (list : List HeadRow) → filled row (k + 1) list ≡ set (filled row k list) k (row k)
   unfolding filled
   fill-next k list = rw add-one refl
-
-  pub fill-length : (k : ℕ) (list : List HeadRow) → length (filled row k list) ≡ length list
-  unfolding filled
-  fill-length zero list = refl
-  fill-length (suc k) list = length-set (filled row k list) k (row k) ∙ fill-length k list
 
 -- ---- all of them
 
@@ -80,9 +72,3 @@ lists t left keys keys' room rule answer s number rows n r =
       fits = rw r s.fits;
       few = rw r s.few;
     }
-
-pub list-shows : (list : Both (MutBor (List HeadRow)) (MutBor (List HeadRow))) (listed : Listed) (keys : List ℕ) (t left : Tables) (room : ℕ) (rule : Stepped)
-    → Lists listed keys t left room rule
-    → list.exit.now ≡ filled (row_in t.blocks.sequences t.heads.tips t.heads.tails t.heads.connected keys) listed.rows list.entry.now
-    → Shows listed.answer list left rule
-list-shows list listed keys t left room rule l e = record { answers = l.answers; shows = e ∙ l.fills list.entry.now; leaves = l.leaves }

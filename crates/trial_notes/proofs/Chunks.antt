@@ -1,12 +1,11 @@
 -- Bytes one after the other: some and then others are all of them, so that it does not matter in which chunks they come.
 use mathlib.Core.Path.{◌≡◌, refl, sym, ap, ◌∙◌}
 use mathlib.Core.List.{List, [], ◌∷◌, ◌++◌, append_assoc, append-nil, flatten}
-use Prim.Native.Nat.{ℕ, ◌+◌, ◌<◌, ◌≤◌, min}
+use Prim.Native.Nat.{ℕ, ◌+◌, ◌<◌, ◌≤◌}
 use native.Mathlib.Numerals.{add-one}
 use native.Mathlib.Omega.{arith}
 use lib.ListN.{length, get_or, take}
-use lib.Seq.{sets, take-suc, take_all}
-use Rattle.rules.proofs.Splits.{less?}
+use lib.Seq.{sets, take-suc}
 use Rattle.trial_lines.specs.Begun.{begun_of}
 use Rattle.trial_lines.specs.Writing.{place}
 use Rattle.trial_lines.proofs.Places.{put-none, put_then, sets-front}
@@ -86,16 +85,6 @@ pub comes-turn : (h g k : Held) (bytes : List ℕ) (i byte : ℕ) (out mid writt
     → Comes (held_fed h (take (i + 1) bytes)) (noted (count_in h) (take (i + 1) bytes)) out 0 k written next
 comes-turn h g k bytes i byte out mid written at next l e c d =
     rw (add-one, take-suc bytes i 0 l, ← e) (comes-next h g k (take i bytes) byte out mid written at next c d)
-
-pub comes-all : (h g : Held) (bytes : List ℕ) (i most : ℕ) (out written : List ℕ) (next : ℕ)
-    → Comes (held_fed h (take i bytes)) (noted (count_in h) (take i bytes)) out 0 g written next → i ≡ min most (length bytes)
-    → Comes (held_fed h (take most bytes)) (noted (count_in h) (take most bytes)) out 0 g written next
-comes-all h g bytes i most out written next c is =
-    let e : take i bytes ≡ take most bytes =
-    less? (length bytes) most
-    (λ l. take_all i bytes (omega arith) ∙ sym (take_all most bytes (omega arith)))
-    (λ l. let q : i ≡ most = omega arith in ap (λ (x : ℕ). take x bytes) q) in
-    rw e at c
 
 -- ---- with room for all
 

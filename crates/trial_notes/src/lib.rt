@@ -1,5 +1,7 @@
 // What is noted of a trial's lines: for each that cannot be read its number, counted from 1, and the reason. Bytes come in as they come to
 // the session, and a buffer of the caller holds the line that has begun.
+#![tactic(auto)]
+
 pub mod faults;
 mod lines;
 pub mod text;

@@ -1,4 +1,6 @@
 // A block inserted, deleted, or given its parent.
+#![tactic(auto)]
+
 ghost use Rattle.std.specs.Prelude.{◌≡◌};
 ghost use Rattle.rules.specs.Records.{occupied, put_block, blocks_of};
 ghost use Rattle.rules.specs.BlockTable.{delete as delete_rule, insertion, insert as insert_rule, insert_at, resolve_parent, set_parent};

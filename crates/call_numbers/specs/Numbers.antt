@@ -1,10 +1,9 @@
 -- The numbers and lists that a call's answer is passed on as.
-use Rattle.std.specs.Prelude.{◌≡◌, List, ℕ, ◌*◌, eqb, length, set}
+use Rattle.std.specs.Prelude.{◌≡◌, List, ℕ, ◌*◌, eqb, length, set, if◌then◌else◌}
 use Rattle.std.proofs.Math.Option.{Option, none, some}
 use Rattle.std.proofs.lemmas.List.Edits.{sets}
 use denote.Triple.Both.{Both}
 use denote.MutBor.{MutBor}
-use Rattle.rules.specs.Common.{if◌then◌else◌}
 use Rattle.rules.specs.Kinds.{BlockSlot, Time}
 use Rattle.rules.specs.Records.{NONE, Tables, Lent}
 use Rattle.rules.specs.Calls.{Stepped}

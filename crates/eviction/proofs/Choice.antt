@@ -1,11 +1,12 @@
 -- The head to evict among those before `k`, by whether there is one, its slot and its tip's sequence.
+use Rattle.std.specs.Prelude.{if◌then◌else◌}
 use mathlib.Core.Path.{◌≡◌, sym, ◌∙◌}
 use mathlib.Core.Bool.{Bool, true, false, not, ◌&&◌, ◌||◌}
 use mathlib.Core.List.{List}
 use mathlib.Core.Option.{Option, none, some}
 use Prim.Native.Nat.{ℕ, ◌+◌}
 use lib.Dec.{eqb, ltb}
-use Rattle.rules.specs.Common.{if◌then◌else◌, best}
+use Rattle.rules.specs.Common.{best}
 use Rattle.rules.specs.Hashes.{hash_at, hash_less}
 use Rattle.rules.specs.Records.{NONE, slots_of, sequence_at, tip_at, occupied, used}
 use Rattle.rules.specs.Eviction.{block_before, may_go, victim}

@@ -1,8 +1,7 @@
 -- One visit of the eviction walk, as the loop makes it: what it leaves, and where the walk goes on.
-use Rattle.std.specs.Prelude.{◌≡◌, not, eqb}
+use Rattle.std.specs.Prelude.{◌≡◌, not, eqb, if◌then◌else◌}
 use Rattle.std.proofs.Math.Option.{Option, none, some}
 use Rattle.rules.specs.Kinds.{BlockSlot}
-use Rattle.rules.specs.Common.{if◌then◌else◌}
 use Rattle.rules.specs.Records.{Blocks, parent_at, count_at, occupied, active}
 use Rattle.rules.specs.BlockTable.{minus_one, adjusted, adjust, delete}
 

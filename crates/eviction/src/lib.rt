@@ -1,8 +1,7 @@
 // Eviction: which head goes, and which blocks go with it. Port of that part of src/chain_heads.rs.
 #![tactic(auto)]
 
-ghost use Rattle.std.specs.Prelude.{◌≡◌, true, not, ◌&&◌, ◌||◌, eqb, ltb};
-ghost use Rattle.rules.specs.Common.{if◌then◌else◌};
+ghost use Rattle.std.specs.Prelude.{◌≡◌, true, not, ◌&&◌, ◌||◌, eqb, ltb, if◌then◌else◌};
 ghost use Rattle.rules.specs.Hashes.{hash_at, hash_less};
 ghost use Rattle.rules.specs.Records.{NONE, slots_of, tip_at, blocks_of, tables_of};
 ghost use Rattle.rules.specs.Answers.{slot_found, head_found};

@@ -1,4 +1,6 @@
 // A head inserted: in the lowest empty slot, and a full head table evicts first.
+#![tactic(auto)]
+
 ghost use Rattle.std.specs.Prelude.{◌≡◌};
 ghost use Rattle.rules.specs.Records.{put_head, heads_of, tables_of};
 ghost use Rattle.rules.specs.Caches.{head_recomputed};

@@ -1,7 +1,7 @@
 -- Which slots are named as a parent: a byte a slot, 1 where an occupied block names it.
-use Rattle.std.specs.Prelude.{Bool, ◌&&◌, List, ℕ, eqb, ltb, length, get_or, set, replicate}
+use Rattle.std.specs.Prelude.{Bool, ◌&&◌, List, ℕ, eqb, ltb, length, get_or, set, replicate, if◌then◌else◌}
 use Rattle.rules.specs.Kinds.{BlockSlot}
-use Rattle.rules.specs.Common.{if◌then◌else◌, in_order}
+use Rattle.rules.specs.Common.{in_order}
 use Rattle.rules.specs.Records.{slots_of, parent_at, occupied}
 use Rattle.rules.specs.BlockTable.{childless}
 

@@ -1,8 +1,7 @@
 -- The numbers that stand for answers.
-use Rattle.std.specs.Prelude.{List, ℕ, ◌+◌, ◌*◌, eqb, set}
+use Rattle.std.specs.Prelude.{List, ℕ, ◌+◌, ◌*◌, eqb, set, if◌then◌else◌}
 use Rattle.std.proofs.Math.Option.{Option, none, some}
 use Rattle.rules.specs.Kinds.{BlockSlot, Time}
-use Rattle.rules.specs.Common.{if◌then◌else◌}
 use Rattle.rules.specs.Records.{NONE}
 use Rattle.rules.specs.BlockTable.{Insertion, into_slot, reserved, full}
 use Rattle.rules.specs.Caches.{HeadInUse}

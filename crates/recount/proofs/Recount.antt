@@ -1,4 +1,5 @@
 -- The three passes over the counts give what the rule says, cell by cell, on every table.
+use Rattle.std.specs.Prelude.{if◌then◌else◌}
 use mathlib.Core.Path.{◌≡◌, refl, sym, ◌∙◌}
 use mathlib.Core.Logic.{◌≢◌}
 use mathlib.Core.Bool.{true, false, ◌&&◌}
@@ -9,7 +10,7 @@ use borrow.Author.Tests.{eq-eqb, ne_eqb, lt-ltb, le-ltb}
 use lib.Dec.{eqb, ltb}
 use lib.ListN.{length, get_or, set, length-set}
 use lib.Seq.{get_or-set_same, get_or-set_other, ext_get_or}
-use Rattle.rules.specs.Common.{if◌then◌else◌, count_below, in_order}
+use Rattle.rules.specs.Common.{count_below, in_order}
 use Rattle.rules.specs.Records.{slots_of, parent_at, count_at, occupied}
 use Rattle.rules.specs.BlockTable.{child_of, children, adjusted, adjust_counts, set_occupied, max_count}
 use Rattle.rules.specs.Removal.{recount, recount_all}

@@ -1,7 +1,6 @@
 -- The counts in three passes over the slots: occupied slots to 0, one more for each child, and at least 1.
-use Rattle.std.specs.Prelude.{◌&&◌, List, ℕ, eqb, ltb, pos, set}
+use Rattle.std.specs.Prelude.{◌&&◌, List, ℕ, eqb, ltb, pos, set, if◌then◌else◌}
 use Rattle.rules.specs.Kinds.{BlockSlot}
-use Rattle.rules.specs.Common.{if◌then◌else◌}
 use Rattle.rules.specs.Records.{slots_of, parent_at, count_at, occupied}
 use Rattle.rules.specs.BlockTable.{adjust_counts, set_occupied}
 

@@ -1,4 +1,5 @@
 -- What remove does, told from its answer.
+use Rattle.std.specs.Prelude.{if◌then◌else◌}
 use mathlib.Core.Path.{◌≡◌, sym, ap, ◌∙◌}
 use mathlib.Core.Bool.{true, false, not}
 use mathlib.Core.List.{List}
@@ -6,7 +7,6 @@ use Prim.Native.Nat.{ℕ, ◌+◌, ◌-◌, ◌≤◌, min}
 use native.Mathlib.Omega.{arith}
 use lib.ListN.{length, take, drop}
 use lib.Seq.{sets, sets-eq, take-append_seam}
-use Rattle.rules.specs.Common.{if◌then◌else◌}
 use Rattle.rules.specs.Records.{Tables, slots_of, parent_at, occupied}
 use Rattle.rules.specs.BlockTable.{in_subtree, mark_subtree}
 use Rattle.rules.specs.Removal.{list_removed, removed}

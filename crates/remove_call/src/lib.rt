@@ -1,8 +1,7 @@
 // Remove.
 #![tactic(auto)]
 
-ghost use Rattle.std.specs.Prelude.{◌≡◌, not, ℕ, min};
-ghost use Rattle.rules.specs.Common.{if◌then◌else◌};
+ghost use Rattle.std.specs.Prelude.{◌≡◌, not, ℕ, min, if◌then◌else◌};
 ghost use Rattle.rules.specs.Records.{parent_at, occupied, tables_of};
 ghost use Rattle.rules.specs.Removal.{list_removed};
 ghost use Rattle.rules.specs.Answers.{refused, done, outcome_said, removed_said};

@@ -1,11 +1,12 @@
 -- The number that goes before all others that pass: one turn of the search, and what the number found is.
+use Rattle.std.specs.Prelude.{if◌then◌else◌}
 use mathlib.Core.Path.{◌≡◌, refl, sym, ◌∙◌}
 use mathlib.Core.Bool.{Bool, true, false}
 use mathlib.Core.Option.{Option, none, some}
 use Prim.Native.Nat.{ℕ, zero, suc, ◌+◌, ◌<◌}
 use native.Mathlib.Numerals.{add-one}
 use native.Mathlib.Omega.{arith}
-use Rattle.rules.specs.Common.{if◌then◌else◌, better, best}
+use Rattle.rules.specs.Common.{better, best}
 use Rattle.rules.proofs.Orders.{Strict}
 use Rattle.rules.proofs.Splits.{split, same?, option?, true-not-false, some-not-none}
 

@@ -1,4 +1,5 @@
 -- Hashes: what is read and written cell by cell, and that the order on them decides at the first byte that differs.
+use Rattle.std.specs.Prelude.{if◌then◌else◌}
 use mathlib.Core.Path.{◌≡◌, refl, sym, ap, ◌∙◌}
 use mathlib.Core.Logic.{◌≢◌}
 use mathlib.Core.Bool.{true, false}
@@ -11,7 +12,6 @@ use borrow.Author.Tests.{eq-eqb, ne_eqb, lt-ltb, le-ltb, eqb-true}
 use lib.Dec.{eqb, ltb}
 use lib.ListN.{length, get_or, drop, drop_of_length-le}
 use lib.Seq.{drop-cons, ext_get_or}
-use Rattle.rules.specs.Common.{if◌then◌else◌}
 use Rattle.rules.specs.Hashes.{bytes_from, hash_at, same_hash, hash_less, hash_length}
 use Rattle.rules.proofs.Splits.{and-true, and_both, true-not-false}
 

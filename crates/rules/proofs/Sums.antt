@@ -1,4 +1,5 @@
 -- What numbers come to together, by addition or by the greater of two: one law for both.
+use Rattle.std.specs.Prelude.{if◌then◌else◌}
 use mathlib.Core.Path.{◌≡◌, refl, sym, ap, ◌∙◌}
 use mathlib.Core.Logic.{◌≢◌}
 use mathlib.Core.Bool.{Bool, true, false}
@@ -6,7 +7,7 @@ use mathlib.Core.List.{List, [], ◌∷◌, ◌++◌}
 use Prim.Native.Nat.{ℕ, zero, suc, ◌+◌, ◌<◌, ◌≤◌, max}
 use native.Mathlib.Omega.{arith}
 use lib.ListN.{length}
-use Rattle.rules.specs.Common.{if◌then◌else◌, all_below}
+use Rattle.rules.specs.Common.{all_below}
 use Rattle.rules.proofs.Splits.{split, same?}
 
 -- numbers are joined in any order, and 0 adds nothing

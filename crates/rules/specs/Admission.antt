@@ -1,8 +1,8 @@
 -- Admission (01, "Admission"): the new block's head, the late tails, and admit's added step.
-use Rattle.std.specs.Prelude.{Bool, not, ◌&&◌, List, ℕ, suc, eqb, pos, set}
+use Rattle.std.specs.Prelude.{Bool, not, ◌&&◌, List, ℕ, suc, eqb, pos, set, if◌then◌else◌}
 use Rattle.std.proofs.Math.Option.{Option, none, some}
 use Rattle.rules.specs.Kinds.{BlockSlot, HeadSlot, Sequence, Time, Hash}
-use Rattle.rules.specs.Common.{if◌then◌else◌, lowest, in_order}
+use Rattle.rules.specs.Common.{lowest, in_order}
 use Rattle.rules.specs.Hashes.{zero_hash, hash_at, same_hash}
 use Rattle.rules.specs.Records.{NONE, Blocks, Heads, Tables, slots_of, sequence_at, parent_at, tip_at, tail_at, occupied, used, stored, put_head, clear, with_parents, caches, with_caches, with_blocks, with_heads, with_tips, with_arrivals, head_of}
 use Rattle.rules.specs.BlockTable.{adjust, resolve_parent}

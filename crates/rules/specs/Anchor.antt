@@ -1,7 +1,6 @@
 -- The anchor (01, "Anchor"): where the parent walk of a tip ends.
-use Rattle.std.specs.Prelude.{not, List, ℕ, zero, suc, eqb}
+use Rattle.std.specs.Prelude.{not, List, ℕ, zero, suc, eqb, if◌then◌else◌}
 use Rattle.rules.specs.Kinds.{BlockSlot}
-use Rattle.rules.specs.Common.{if◌then◌else◌}
 use Rattle.rules.specs.Records.{NONE, slots_of, parent_at, occupied, active}
 
 pub data Anchor : Type 0 where

@@ -1,8 +1,8 @@
 -- The block table (01, "Block table").
-use Rattle.std.specs.Prelude.{Bool, true, false, not, ◌&&◌, List, [], ℕ, zero, suc, ◌+◌, ◌-◌, min, eqb, ltb, ℤ, pos, negsuc, set}
+use Rattle.std.specs.Prelude.{Bool, true, false, not, ◌&&◌, List, [], ℕ, zero, suc, ◌+◌, ◌-◌, min, eqb, ltb, ℤ, pos, negsuc, set, if◌then◌else◌}
 use Rattle.std.proofs.Math.Option.{Option, none, some}
 use Rattle.rules.specs.Kinds.{BlockSlot, Sequence, Hash}
-use Rattle.rules.specs.Common.{if◌then◌else◌, lowest, count_below, all_below}
+use Rattle.rules.specs.Common.{lowest, count_below, all_below}
 use Rattle.rules.specs.Hashes.{hash_at, same_hash}
 use Rattle.rules.specs.Records.{NONE, Blocks, slots_of, sequence_at, parent_at, count_at, flags_at, occupied, active, with_bit0, status_of, with_status, block_at, put_block, erase, with_counts}
 use Rattle.rules.specs.declared.Block.{Block}

@@ -1,8 +1,8 @@
 -- The caches of a head (01, "Caches"): flag, anchor, missing hash and request time, from the walk of its tip.
-use Rattle.std.specs.Prelude.{Bool, true, false, ◌&&◌, List, ℕ, ◌*◌, eqb, leb, get_or, set, take, drop}
+use Rattle.std.specs.Prelude.{Bool, true, false, ◌&&◌, List, ℕ, ◌*◌, eqb, leb, get_or, set, take, drop, if◌then◌else◌}
 use Rattle.std.proofs.Math.Option.{Option, none, some}
 use Rattle.rules.specs.Kinds.{BlockSlot, HeadSlot, Hash}
-use Rattle.rules.specs.Common.{if◌then◌else◌, lowest, in_order}
+use Rattle.rules.specs.Common.{lowest, in_order}
 use Rattle.rules.specs.Hashes.{hash_length, zero_hash, hash_at, put_hash}
 use Rattle.rules.specs.Records.{NONE, Blocks, Heads, slots_of, tip_at, tail_at, used, is_connected, stored, with_bit0, Caches, caches, with_caches}
 use Rattle.rules.specs.Anchor.{Anchor, connection, tail, locate_anchor}

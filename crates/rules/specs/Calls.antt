@@ -1,8 +1,8 @@
 -- The calls (01, "Replies and refusals"): which refusal applies first, what a call does, and lists of calls.
-use Rattle.std.specs.Prelude.{◌≡◌, Bool, not, ◌&&◌, ◌||◌, List, [], ◌∷◌, ℕ, eqb, ltb, leb, length}
+use Rattle.std.specs.Prelude.{◌≡◌, Bool, not, ◌&&◌, ◌||◌, List, [], ◌∷◌, ℕ, eqb, ltb, leb, length, if◌then◌else◌}
 use Rattle.std.proofs.Math.Option.{Option, none, some}
 use Rattle.rules.specs.Kinds.{BlockSlot, Sequence, Time, Hash}
-use Rattle.rules.specs.Common.{if◌then◌else◌, is_some, lowest}
+use Rattle.rules.specs.Common.{is_some, lowest}
 use Rattle.rules.specs.Hashes.{hash_length, zero_hash, hash_at, same_hash}
 use Rattle.rules.specs.Records.{NONE, Blocks, Tables, slots_of, parent_at, occupied, active, empty_blocks, empty_heads, with_blocks, with_heads, with_requested, blocks_fit, heads_fit, block_of}
 use Rattle.rules.specs.BlockTable.{find, next_free, find_parent, in_subtree, mark_subtree, insert_at}

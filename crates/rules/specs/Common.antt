@@ -1,12 +1,7 @@
--- What 01 takes for granted: a choice between two, the lowest of the numbers that pass a test, the one that goes
--- before all others, how many pass, which pass, those that pass put in an order, and one thing after the other.
-use Rattle.std.specs.Prelude.{Bool, true, false, ◌||◌, List, [], ◌∷◌, ◌++◌, ℕ, zero, suc, ◌+◌, eqb}
+-- What 01 takes for granted: the lowest of the numbers that pass a test, the one that goes before all others, how many pass, which pass, those
+-- that pass put in an order, and one thing after the other.
+use Rattle.std.specs.Prelude.{Bool, true, false, ◌||◌, if◌then◌else◌, List, [], ◌∷◌, ◌++◌, ℕ, zero, suc, ◌+◌, eqb}
 use Rattle.std.proofs.Math.Option.{Option, none, some}
-
-infix 10 if◌then◌else◌
-abbrev pub if◌then◌else◌ {ℓ} : {A : Type ℓ} (condition : Bool) (a b : A) → A
-if true then a else b = a
-if false then a else b = b
 
 abbrev pub is_some : (o : Option ℕ) → Bool
 is_some none = false

@@ -1,8 +1,8 @@
 -- Eviction (01, "Eviction"): which head goes, and which blocks go with it.
-use Rattle.std.specs.Prelude.{Bool, not, ◌&&◌, ◌||◌, List, ℕ, zero, suc, eqb, ltb}
+use Rattle.std.specs.Prelude.{Bool, not, ◌&&◌, ◌||◌, List, ℕ, zero, suc, eqb, ltb, if◌then◌else◌}
 use Rattle.std.proofs.Math.Option.{Option, none, some}
 use Rattle.rules.specs.Kinds.{BlockSlot, HeadSlot}
-use Rattle.rules.specs.Common.{if◌then◌else◌, best}
+use Rattle.rules.specs.Common.{best}
 use Rattle.rules.specs.Hashes.{hash_at, hash_less}
 use Rattle.rules.specs.Records.{Blocks, Tables, slots_of, sequence_at, parent_at, count_at, tip_at, occupied, active, used, clear}
 use Rattle.rules.specs.BlockTable.{adjusted, adjust, delete, minus_one}

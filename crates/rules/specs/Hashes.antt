@@ -1,8 +1,7 @@
 -- Hashes (01, "Records"): 32 bytes taken together, ordered from the first byte on.
-use Rattle.std.specs.Prelude.{Bool, true, false, ◌&&◌, List, [], ◌∷◌, ℕ, zero, suc, ◌*◌, eqb, ltb, get_or, replicate}
+use Rattle.std.specs.Prelude.{Bool, true, false, ◌&&◌, List, [], ◌∷◌, ℕ, zero, suc, ◌*◌, eqb, ltb, get_or, replicate, if◌then◌else◌}
 use Rattle.std.proofs.lemmas.List.Edits.{sets}
 use Rattle.rules.specs.Kinds.{Hash}
-use Rattle.rules.specs.Common.{if◌then◌else◌}
 
 abbrev pub hash_length : ℕ
 hash_length = 32

@@ -1,9 +1,9 @@
 -- Demand 3 (00, and 01 "Lists of calls"): what holds after every list of calls, worked out afresh from the blocks, the
 -- calls and their answers; what hangs under a block (02, S-1), beside what `mark_subtree` lists; and the head screen (02, S-2).
-use Rattle.std.specs.Prelude.{◌≡◌, ◌≢◌, ◌⊎◌, ◌↔◌, Bool, true, not, ◌&&◌, List, [], ◌∷◌, ◌++◌, ℕ, suc, ◌+◌, ◌*◌, ◌%◌, ◌≤◌, ◌<◌, max, eqb, length, get_or, replicate}
+use Rattle.std.specs.Prelude.{◌≡◌, ◌≢◌, ◌⊎◌, ◌↔◌, Bool, true, not, ◌&&◌, List, [], ◌∷◌, ◌++◌, ℕ, suc, ◌+◌, ◌*◌, ◌%◌, ◌≤◌, ◌<◌, max, eqb, length, get_or, replicate, if◌then◌else◌}
 use Rattle.std.proofs.Math.Option.{Option, none, some}
 use Rattle.rules.specs.Kinds.{BlockSlot, HeadSlot, Sequence, Time, Hash}
-use Rattle.rules.specs.Common.{if◌then◌else◌, is_at, count_below}
+use Rattle.rules.specs.Common.{is_at, count_below}
 use Rattle.rules.specs.Hashes.{hash_length, hash_at}
 use Rattle.rules.specs.Records.{NONE, Blocks, Tables, empty_block, empty_head, block_at, head_at}
 use Rattle.rules.specs.Caches.{slot_of_head}

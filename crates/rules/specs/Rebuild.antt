@@ -1,7 +1,7 @@
 -- Rebuild and restart (01, "Rebuild"): the heads made anew from the blocks.
-use Rattle.std.specs.Prelude.{Bool, ◌&&◌, length}
+use Rattle.std.specs.Prelude.{Bool, ◌&&◌, length, if◌then◌else◌}
 use Rattle.rules.specs.Kinds.{BlockSlot, Time}
-use Rattle.rules.specs.Common.{if◌then◌else◌, in_order}
+use Rattle.rules.specs.Common.{in_order}
 use Rattle.rules.specs.Hashes.{zero_hash}
 use Rattle.rules.specs.Records.{NONE, Tables, slots_of, occupied, with_blocks, empty_heads}
 use Rattle.rules.specs.BlockTable.{childless}

@@ -1,8 +1,8 @@
 -- Removal (01, "Removal"): a subtree is freed, its heads with it, and caches and counts are worked out again.
-use Rattle.std.specs.Prelude.{Bool, true, false, not, ◌&&◌, List, [], ◌∷◌, ℕ, max, min, eqb, set}
+use Rattle.std.specs.Prelude.{Bool, true, false, not, ◌&&◌, List, [], ◌∷◌, ℕ, max, min, eqb, set, if◌then◌else◌}
 use Rattle.std.proofs.Math.Option.{Option, none}
 use Rattle.rules.specs.Kinds.{BlockSlot, HeadSlot}
-use Rattle.rules.specs.Common.{if◌then◌else◌, is_some, is_at, lowest, in_order}
+use Rattle.rules.specs.Common.{is_some, is_at, lowest, in_order}
 use Rattle.rules.specs.Records.{Blocks, Heads, Tables, slots_of, parent_at, tip_at, occupied, used, clear, with_counts, with_tips, with_blocks}
 use Rattle.rules.specs.BlockTable.{children, childless, mark_subtree, delete, max_count}
 use Rattle.rules.specs.Caches.{slot_of_head, recompute_heads}

@@ -1,8 +1,8 @@
 -- The timer (01, "Timer"): due times, the choice of a head to ask for, and the deadline.
-use Rattle.std.specs.Prelude.{Bool, ◌&&◌, ◌||◌, List, ℕ, ◌+◌, ◌-◌, min, eqb, ltb, leb, set}
+use Rattle.std.specs.Prelude.{Bool, ◌&&◌, ◌||◌, List, ℕ, ◌+◌, ◌-◌, min, eqb, ltb, leb, set, if◌then◌else◌}
 use Rattle.std.proofs.Math.Option.{Option, none, some}
 use Rattle.rules.specs.Kinds.{HeadSlot, Sequence, Time}
-use Rattle.rules.specs.Common.{if◌then◌else◌, best}
+use Rattle.rules.specs.Common.{best}
 use Rattle.rules.specs.Records.{slots_of, sequence_at, tip_at, tail_at, requested_at, occupied, stored}
 use Rattle.rules.specs.Eviction.{block_before}
 

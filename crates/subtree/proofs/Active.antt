@@ -1,4 +1,5 @@
 -- Active blocks in a list, from a place on; in the list of a subtree they are those that forbid its removal.
+use Rattle.std.specs.Prelude.{if◌then◌else◌}
 use mathlib.Core.Path.{◌≡◌, refl}
 use mathlib.Core.Bool.{Bool, true, false, ◌&&◌}
 use mathlib.Core.List.{List, [], ◌∷◌, ◌++◌, append-nil}
@@ -6,7 +7,7 @@ use Prim.Native.Nat.{ℕ, zero, suc, ◌+◌, ◌<◌, ◌≤◌}
 use native.Mathlib.Numerals.{add-one}
 use lib.ListN.{length, get_or, drop, drop_of_length-le}
 use lib.Seq.{drop-cons}
-use Rattle.rules.specs.Common.{if◌then◌else◌, is_some, lowest, all_below}
+use Rattle.rules.specs.Common.{is_some, lowest, all_below}
 use Rattle.rules.specs.Records.{Blocks, slots_of, occupied, active}
 use Rattle.rules.specs.BlockTable.{in_subtree, mark_subtree}
 use Rattle.rules.specs.Calls.{holds_active}

@@ -1,7 +1,6 @@
 -- Active blocks in a list.
-use Rattle.std.specs.Prelude.{Bool, true, false, List, [], ◌∷◌, ℕ}
+use Rattle.std.specs.Prelude.{Bool, true, false, List, [], ◌∷◌, ℕ, if◌then◌else◌}
 use Rattle.rules.specs.Kinds.{BlockSlot}
-use Rattle.rules.specs.Common.{if◌then◌else◌}
 use Rattle.rules.specs.Records.{active}
 
 unfoldable pub any_active : (flags : List ℕ) (listed : List BlockSlot) → Bool

@@ -1,4 +1,5 @@
 -- The head to ask for among those before `k`, by whether there is one, its slot and its request time.
+use Rattle.std.specs.Prelude.{if◌then◌else◌}
 use mathlib.Core.Path.{◌≡◌, refl, sym, ◌∙◌}
 use mathlib.Core.Bool.{Bool, true, false, ◌&&◌, ◌||◌}
 use mathlib.Core.List.{List}
@@ -7,7 +8,7 @@ use Prim.Native.Nat.{ℕ, ◌+◌, ◌≤◌}
 use native.Mathlib.Omega.{arith}
 use borrow.Author.Tests.{le-ltb, ne_eqb, leb-false}
 use lib.Dec.{eqb, ltb, leb}
-use Rattle.rules.specs.Common.{if◌then◌else◌, best}
+use Rattle.rules.specs.Common.{best}
 use Rattle.rules.specs.Records.{slots_of, requested_at, tip_at, occupied, stored}
 use Rattle.rules.specs.Eviction.{block_before}
 use Rattle.rules.specs.Timer.{due, may_ask, asks_before, chosen}

@@ -1,4 +1,5 @@
 -- The least due time of the stored heads before `k` is the due time of their least request time: due times rise with request times.
+use Rattle.std.specs.Prelude.{if◌then◌else◌}
 use mathlib.Core.Path.{◌≡◌, refl, sym, ap, ◌∙◌}
 use mathlib.Core.Bool.{Bool, true, false}
 use mathlib.Core.List.{List}
@@ -7,7 +8,7 @@ use Prim.Native.Nat.{ℕ, ◌+◌, ◌≤◌}
 use native.Mathlib.Omega.{arith}
 use borrow.Author.Tests.{eq-eqb, ne_eqb, le-ltb, ltb-true, ltb-false}
 use lib.Dec.{ltb}
-use Rattle.rules.specs.Common.{if◌then◌else◌, better, best}
+use Rattle.rules.specs.Common.{better, best}
 use Rattle.rules.specs.Records.{slots_of, requested_at, stored}
 use Rattle.rules.specs.Timer.{due, due_first, deadline}
 use Rattle.rules.proofs.Splits.{split, same?, option?, true-not-false}

@@ -1,6 +1,5 @@
 // Parent recovery: due times, the choice of a head to ask for, and the deadline. Port of that part of src/chain_heads.rs.
-ghost use Rattle.std.specs.Prelude.{◌≡◌, true, ◌&&◌, ◌||◌, eqb, ltb, leb};
-ghost use Rattle.rules.specs.Common.{if◌then◌else◌};
+ghost use Rattle.std.specs.Prelude.{◌≡◌, true, ◌&&◌, ◌||◌, eqb, ltb, leb, if◌then◌else◌};
 ghost use Rattle.rules.specs.Records.{tip_at, occupied, stored};
 ghost use Rattle.rules.specs.Eviction.{block_before};
 ghost use Rattle.rules.specs.Timer.{due, chosen as chosen_rule, claimed as claimed_rule, ask_at, recovery, mark_requested, deadline};

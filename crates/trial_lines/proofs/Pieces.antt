@@ -1,10 +1,10 @@
 -- The pieces of each line, and of the lines of a screen.
+use Rattle.std.specs.Prelude.{if◌then◌else◌}
 use mathlib.Core.Path.{◌≡◌}
 use mathlib.Core.Bool.{Bool}
 use mathlib.Core.List.{List, [], ◌∷◌, ◌++◌, flatten, append-nil, append_assoc}
 use Prim.Native.Nat.{ℕ}
 use lib.Dec.{eqb}
-use Rattle.rules.specs.Common.{if◌then◌else◌}
 use Rattle.rules.specs.declared.HeadRow.{HeadRow}
 use Rattle.trial_lines.specs.Writing.{hex, field, reference, letter_line, number_line, hanging_line, row_line, rows_lines, request_line, none_due_line, block_line, head_line}
 use Rattle.trial_lines.proofs.Places.{Put, Puts, put-none, put_then, puts-put}

@@ -1,6 +1,5 @@
 -- What has come of a line (01, "One trial whole"), and how the start of a buffer holds it.
-use Rattle.std.specs.Prelude.{Bool, true, false, List, [], ◌∷◌, ◌++◌, ℕ, ltb, leb, length, take}
-use Rattle.rules.specs.Common.{if◌then◌else◌}
+use Rattle.std.specs.Prelude.{Bool, true, false, List, [], ◌∷◌, ◌++◌, ℕ, ltb, leb, length, take, if◌then◌else◌}
 use Rattle.trial_lines.specs.Reading.{parse}
 use Rattle.trial_lines.specs.declared.Line.{Line}
 use Rattle.trial_lines.specs.declared.Line.TheVariants.{Unread}

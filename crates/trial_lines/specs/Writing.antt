@@ -1,7 +1,6 @@
 -- The lines that a trial prints (01, "One trial whole"), as bytes: a space is 32, `-` 45, the end of a line 10.
-use Rattle.std.specs.Prelude.{Bool, List, [], ◌∷◌, ◌++◌, ℕ, zero, suc, ◌+◌, ◌/◌, ◌%◌, min, max, eqb, ltb}
+use Rattle.std.specs.Prelude.{Bool, List, [], ◌∷◌, ◌++◌, ℕ, zero, suc, ◌+◌, ◌/◌, ◌%◌, min, max, eqb, ltb, if◌then◌else◌}
 use Rattle.rules.specs.Kinds.{BlockSlot, HeadSlot, Sequence}
-use Rattle.rules.specs.Common.{if◌then◌else◌}
 use Rattle.rules.specs.Records.{NONE}
 use Rattle.rules.specs.declared.HeadRow.{HeadRow}
 

@@ -1,7 +1,6 @@
 // Lines of output, each with its end, from a place of a lent buffer on. What is returned is the place after it.
-ghost use Rattle.std.specs.Prelude.{◌≡◌, length};
+ghost use Rattle.std.specs.Prelude.{◌≡◌, length, if◌then◌else◌};
 ghost use Rattle.std.proofs.lemmas.List.Edits.{sets};
-ghost use Rattle.rules.specs.Common.{if◌then◌else◌};
 ghost use Rattle.trial_lines.specs.Writing.{place, number_line, hanging_line, row_line, request_line, none_due_line, letter_line, block_line, head_line};
 
 use crate::text::{put, put_field, put_hex, put_reference};

@@ -1,8 +1,7 @@
 -- What a trial prints at the end (01, "One trial whole"): B slot sequence parent count active, for each block; H slot tip
 -- C-or-S anchor, for each head.
-use Rattle.std.specs.Prelude.{List, [], ◌++◌, ℕ, zero, suc}
+use Rattle.std.specs.Prelude.{List, [], ◌++◌, ℕ, zero, suc, if◌then◌else◌}
 use Rattle.rules.specs.Kinds.{BlockSlot, HeadSlot}
-use Rattle.rules.specs.Common.{if◌then◌else◌}
 use Rattle.rules.specs.Records.{slots_of, sequence_at, parent_at, count_at, tip_at, tail_at, occupied, used, active, is_connected}
 use Rattle.trial_lines.specs.Writing.{block_line, head_line}
 

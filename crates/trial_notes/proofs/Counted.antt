@@ -1,4 +1,5 @@
 -- A byte that comes, and a last line: what the buffer then holds is what the count then is.
+use Rattle.std.specs.Prelude.{if◌then◌else◌}
 use mathlib.Core.Path.{◌≡◌, ap}
 use mathlib.Core.Logic.{◌≢◌}
 use mathlib.Core.List.{List}
@@ -6,7 +7,6 @@ use Prim.Native.Nat.{ℕ, ◌+◌, min}
 use borrow.Author.Tests.{eq-eqb, ne_eqb}
 use lib.Dec.{leb}
 use lib.ListN.{length, set, take}
-use Rattle.rules.specs.Common.{if◌then◌else◌}
 use Rattle.trial_lines.specs.Begun.{line_most, Begun, so_far, too_long, longer, begun_of}
 use Rattle.trial_lines.proofs.Joined.{begun-joins, some-begun, none-begun}
 use Rattle.trial_lines.proofs.Places.{Put, put-none}

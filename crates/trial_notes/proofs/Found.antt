@@ -1,4 +1,5 @@
 -- A line's faults from those of its fields, as the code meets them.
+use Rattle.std.specs.Prelude.{if◌then◌else◌}
 use mathlib.Core.Path.{◌≡◌, ◌∙◌}
 use mathlib.Core.List.{List, [], ◌∷◌}
 use mathlib.Core.Option.{Option}
@@ -7,7 +8,7 @@ use Prim.Native.Nat.{ℕ}
 use lib.ListN.{length, get_or}
 use borrow.Author.Tests.{eq-eqb, ne_eqb}
 use mathlib.Core.Logic.{◌≢◌}
-use Rattle.rules.specs.Common.{if◌then◌else◌, is_some}
+use Rattle.rules.specs.Common.{is_some}
 use Rattle.trial_lines.specs.Reading.{rest, all_digits, number, hash_byte}
 use Rattle.trial_notes.specs.Faults.{unless, found, number_fault, word_fault, time_fault, lowered, hash_reason, hash_fault, inner, last, fresh_fault, admit_fault, timer_fault}
 use Rattle.trial_notes.specs.declared.Reason.{Reason}

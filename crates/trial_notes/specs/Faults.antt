@@ -1,7 +1,7 @@
 -- Why a line cannot be read: the first fault that is met, of the line as a whole, then of its letter, then field after field.
-use Rattle.std.specs.Prelude.{Bool, true, false, ◌&&◌, ◌||◌, List, [], ◌∷◌, ℕ, ◌+◌, ◌-◌, eqb, ltb, leb, length, get_or}
+use Rattle.std.specs.Prelude.{Bool, true, false, ◌&&◌, ◌||◌, List, [], ◌∷◌, ℕ, ◌+◌, ◌-◌, eqb, ltb, leb, length, get_or, if◌then◌else◌}
 use Rattle.std.proofs.Math.Option.{Option, none, some}
-use Rattle.rules.specs.Common.{if◌then◌else◌, is_some}
+use Rattle.rules.specs.Common.{is_some}
 use Rattle.trial_lines.specs.Reading.{field_length, first, rest, letter, all_digits, number, word_most, time_most, hash_byte}
 use Rattle.trial_notes.specs.declared.Reason.{Reason}
 use Rattle.trial_notes.specs.declared.Reason.TheVariants.{Empty, CarriageReturn, SpaceFirst, SpaceLast, SpaceTwice, NoLetter, LowerLetter, FieldMissing, FieldExtra, NoNumber, WordTooLarge, TimeTooLarge, NoHash, UpperHash}

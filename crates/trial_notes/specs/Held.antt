@@ -1,8 +1,7 @@
 -- How a buffer and a few numbers hold a count: what has come of a line stands at the start of the buffer. What stands behind is left as it
 -- was.
-use Rattle.std.specs.Prelude.{◌≡◌, List, [], ◌∷◌, ◌++◌, ℕ, ◌+◌, min, eqb, length, set, drop}
+use Rattle.std.specs.Prelude.{◌≡◌, List, [], ◌∷◌, ◌++◌, ℕ, ◌+◌, min, eqb, length, set, drop, if◌then◌else◌}
 use Rattle.std.proofs.lemmas.List.Edits.{sets}
-use Rattle.rules.specs.Common.{if◌then◌else◌}
 use Rattle.trial_lines.specs.Begun.{line_most, begun_of}
 use Rattle.trial_lines.specs.Writing.{place}
 use Rattle.trial_notes.specs.Notes.{Count, Told, next_number, last_noted}

@@ -1,6 +1,5 @@
 -- What is noted of a trial's lines, byte after byte: a note for each that cannot be read.
-use Rattle.std.specs.Prelude.{List, [], ◌∷◌, ◌++◌, ℕ, ◌+◌, min, eqb}
-use Rattle.rules.specs.Common.{if◌then◌else◌}
+use Rattle.std.specs.Prelude.{List, [], ◌∷◌, ◌++◌, ℕ, ◌+◌, min, eqb, if◌then◌else◌}
 use Rattle.trial_lines.specs.Begun.{Begun, so_far, too_long, longer, has_begun}
 use Rattle.trial_notes.specs.Faults.{fault_of}
 use Rattle.trial_notes.specs.Texts.{note_text}

@@ -1,6 +1,5 @@
 // Bytes joined to lines, and lines noted.
-ghost use Rattle.std.specs.Prelude.{◌≡◌, leb, length, take};
-ghost use Rattle.rules.specs.Common.{if◌then◌else◌};
+ghost use Rattle.std.specs.Prelude.{◌≡◌, leb, length, take, if◌then◌else◌};
 ghost use Rattle.trial_lines.specs.Begun.{so_far, too_long};
 ghost use Rattle.trial_notes.specs.Notes.{begun_fault, next_number, noted_byte, noted};
 ghost use Rattle.trial_notes.specs.Held.{held_of, count_in, held_byte, held_fed, Comes, Lasts};

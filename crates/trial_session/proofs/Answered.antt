@@ -1,4 +1,5 @@
 -- A line's call on the front of the arrays is what the line does to the session that they hold.
+use Rattle.std.specs.Prelude.{if◌then◌else◌}
 use mathlib.Core.Path.{◌≡◌, refl, sym, ap, ◌∙◌}
 use mathlib.Core.Bool.{Bool, true, false}
 use mathlib.Core.List.{List, []}
@@ -6,7 +7,6 @@ use Prim.Native.Nat.{ℕ}
 use native.Mathlib.Omega.{arith}
 use lib.ListN.{length}
 use lib.Seq.{sets}
-use Rattle.rules.specs.Common.{if◌then◌else◌}
 use Rattle.rules.specs.Records.{Tables}
 use Rattle.rules.specs.Answers.{Answer, refused, done}
 use Rattle.rules.specs.Calls.{State, Stepped, state_of, answering, refuse, shaped, fresh_state, fresh, blocks_in, heads_in}

@@ -1,4 +1,5 @@
 -- A byte that comes, and a last line: what the arrays then hold is what the session then is.
+use Rattle.std.specs.Prelude.{if◌then◌else◌}
 use mathlib.Core.Path.{◌≡◌, refl, ap}
 use mathlib.Core.Logic.{◌≢◌}
 use mathlib.Core.List.{List}
@@ -6,7 +7,6 @@ use Prim.Native.Nat.{ℕ, ◌+◌, min}
 use borrow.Author.Tests.{eq-eqb, ne_eqb}
 use lib.Dec.{leb}
 use lib.ListN.{length, set, take}
-use Rattle.rules.specs.Common.{if◌then◌else◌}
 use Rattle.rules.specs.Records.{Tables}
 use Rattle.trial_lines.specs.Begun.{line_most, Begun, so_far, too_long, line_begun, longer, begun_of}
 use Rattle.trial_lines.specs.declared.Line.{Line}

@@ -1,13 +1,13 @@
 -- How much is printed: at most `print_most` bytes for each line. A line that has begun has a byte's part of that in reserve, and its end is
 -- another byte; one that has not prints `?`. So it is at most `byte_most` for each byte that comes, and for what was kept in reserve. At the
 -- end it is 96 more for each slot.
+use Rattle.std.specs.Prelude.{if◌then◌else◌}
 use mathlib.Core.Path.{◌≡◌, refl}
 use mathlib.Core.List.{List, [], ◌∷◌}
 use Prim.Native.Nat.{ℕ, ◌+◌, ◌*◌, ◌≤◌}
 use native.Mathlib.Omega.{arith}
 use lib.Dec.{eqb}
 use lib.ListN.{length, get_or, take, length-append, length-take}
-use Rattle.rules.specs.Common.{if◌then◌else◌}
 use Rattle.rules.specs.Answers.{Answer, refused, done, slot, freed, hangs, shown, request, none_due, due_at, never_due}
 use Rattle.rules.specs.Calls.{State, max_heads, shaped, fresh_state, fresh}
 use Rattle.rules.proofs.Splits.{split}

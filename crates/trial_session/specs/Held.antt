@@ -1,9 +1,8 @@
 -- How a trial's arrays hold a session: the tables in use are the first slots of the arrays, and what has come of a line stands at the
 -- start of its buffer. What stands behind is left as it was.
-use Rattle.std.specs.Prelude.{◌≡◌, List, [], ◌∷◌, ◌++◌, ℕ, ◌+◌, ◌*◌, min, eqb, length, set, drop}
+use Rattle.std.specs.Prelude.{◌≡◌, List, [], ◌∷◌, ◌++◌, ℕ, ◌+◌, ◌*◌, min, eqb, length, set, drop, if◌then◌else◌}
 use Rattle.std.proofs.lemmas.List.Edits.{sets}
 use Rattle.rules.specs.Kinds.{BlockSlot}
-use Rattle.rules.specs.Common.{if◌then◌else◌}
 use Rattle.rules.specs.Records.{Tables, NONE}
 use Rattle.rules.specs.Calls.{State, Stepped, state_of, max_blocks, max_heads}
 use Rattle.trial_lines.specs.Begun.{line_most, chunk_most, Begun, has_begun, line_begun, begun_of}

@@ -1,6 +1,5 @@
 -- A trial (01, "One trial whole"): what a line does to a session, what a byte does, and what a whole input prints.
-use Rattle.std.specs.Prelude.{List, [], ◌∷◌, ◌++◌, ℕ, eqb}
-use Rattle.rules.specs.Common.{if◌then◌else◌}
+use Rattle.std.specs.Prelude.{List, [], ◌∷◌, ◌++◌, ℕ, eqb, if◌then◌else◌}
 use Rattle.rules.specs.Records.{Tables}
 use Rattle.rules.specs.Calls.{State, Stepped, answering, fresh_state, fresh}
 use Rattle.trial_lines.specs.Begun.{Begun, so_far, longer, has_begun, line_begun}

@@ -1,6 +1,5 @@
 // Bytes joined to lines, and lines done.
-ghost use Rattle.std.specs.Prelude.{◌≡◌, List, ℕ, min, leb, length, take};
-ghost use Rattle.rules.specs.Common.{if◌then◌else◌};
+ghost use Rattle.std.specs.Prelude.{◌≡◌, List, ℕ, min, leb, length, take, if◌then◌else◌};
 ghost use Rattle.rules.specs.Records.{tables_of};
 ghost use Rattle.trial_lines.specs.Begun.{so_far, too_long, line_begun};
 ghost use Rattle.trial_session.specs.Held.{held_of, asked as asked_rule, sizes_after, DoesLine, TakesByte, TakesBytes, EndsLast};

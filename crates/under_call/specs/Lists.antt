@@ -1,7 +1,6 @@
 -- The children of every block in lists, and what is met on the way down them.
-use Rattle.std.specs.Prelude.{◌≡◌, ◌⊎◌, true, List, ℕ, zero, suc, ◌≤◌, ◌<◌, eqb, length, get_or}
+use Rattle.std.specs.Prelude.{◌≡◌, ◌⊎◌, true, List, ℕ, zero, suc, ◌≤◌, ◌<◌, eqb, length, get_or, if◌then◌else◌}
 use Rattle.rules.specs.Kinds.{BlockSlot}
-use Rattle.rules.specs.Common.{if◌then◌else◌}
 use Rattle.rules.specs.Records.{NONE, slots_of, parent_at, occupied}
 use Rattle.rules.specs.BlockTable.{child_of}
 use Rattle.rules.specs.Calls.{max_blocks}

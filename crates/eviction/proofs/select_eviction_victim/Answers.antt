@@ -1,9 +1,9 @@
 -- `best` is the head to evict among those before `k`, if there is one, and `lowest` its tip's sequence.
+use Rattle.std.specs.Prelude.{if◌then◌else◌}
 use native.Mathlib.Omega.{arith}
 use mathlib.Core.Path.{◌≡◌, refl, sym, ◌∙◌}
 use mathlib.Core.Bool.{false}
 use mathlib.Core.Option.{none, some}
-use Rattle.rules.specs.Common.{if◌then◌else◌}
 use Rattle.rules.proofs.Splits.{true-not-false}
 use Rattle.eviction.proofs.Choice.{choice-none, choice-behind, choice-kept, choice-taken, choice-victim}
 use Rattle.eviction.proofs.select_eviction_victim.Goals as goal

@@ -1,9 +1,9 @@
 -- `best` is the head to evict among those before `k`, if there is one, and `lowest` its tip's sequence.
+use Rattle.std.specs.Prelude.{if◌then◌else◌}
 use Prim.Native.Nat.{◌≤◌, ◌-◌}
 use mathlib.Core.Path.{◌≡◌}
 use mathlib.Core.Bool.{true}
 use mathlib.Core.Option.{none, some}
-use Rattle.rules.specs.Common.{if◌then◌else◌}
 use Rattle.rules.specs.Records.{sequence_at, tip_at}
 use Rattle.eviction.proofs.Choice.{choice}
 use Rattle.eviction.proofs.select_eviction_victim.Given as goal

@@ -1,4 +1,5 @@
 -- How many numbers below n pass a test, and the pigeonhole.
+use Rattle.std.specs.Prelude.{if◌then◌else◌}
 use mathlib.Core.Path.{◌≡◌, refl}
 use mathlib.Core.Logic.{◌≢◌}
 use mathlib.Core.Bool.{Bool, true, false, not, ◌&&◌}
@@ -7,7 +8,7 @@ use native.Mathlib.Omega.{arith}
 use native.Mathlib.Nat.{le_refl}
 use lib.Dec.{eqb}
 use borrow.Author.Tests.{eq-eqb, ne_eqb}
-use Rattle.rules.specs.Common.{if◌then◌else◌, count_below}
+use Rattle.rules.specs.Common.{count_below}
 use Rattle.rules.proofs.Splits.{split, same?}
 use Rattle.rules.proofs.Each.{count-some}
 

@@ -1,4 +1,5 @@
 -- Lists of calls: the promises go from call to call, and the log grows by each.
+use Rattle.std.specs.Prelude.{if◌then◌else◌}
 use mathlib.Core.Path.{◌≡◌, refl, sym, ap, ◌∙◌}
 use mathlib.Core.Logic.{◌⊎◌, inl, inr}
 use mathlib.Core.List.{List, [], ◌∷◌, ◌++◌, append-nil, append_assoc}
@@ -6,7 +7,7 @@ use mathlib.Core.Option.{Option, none}
 use Prim.Native.Nat.{ℕ}
 use native.Mathlib.Omega.{arith}
 use lib.ListN.{length}
-use Rattle.rules.specs.Common.{if◌then◌else◌, is_at}
+use Rattle.rules.specs.Common.{is_at}
 use Rattle.rules.specs.Calls.{State, Call, admit_call, promote_call, remove_call, timer_call, restart_call, step, run}
 use Rattle.rules.specs.Promises.{Active, Name, name, Made, made, Accepted, Promoted, accepts, later, slot_returned, name_given, last_admitted, Sound, Recorded, Promise}
 use Rattle.rules.proofs.Kept.Went.{Went}

@@ -1,4 +1,5 @@
 -- The subtree that removal marks: the root, and of the others those whose parent is marked.
+use Rattle.std.specs.Prelude.{if◌then◌else◌}
 use mathlib.Core.Path.{◌≡◌, refl, sym, ◌∙◌}
 use mathlib.Core.Logic.{◌≢◌}
 use mathlib.Core.Bool.{Bool, true, false, ◌&&◌}
@@ -7,7 +8,7 @@ use Prim.Native.Nat.{ℕ, zero, suc, ◌+◌, ◌<◌}
 use native.Mathlib.Omega.{arith}
 use lib.Dec.{eqb}
 use borrow.Author.Tests.{eqb-true, eq-eqb}
-use Rattle.rules.specs.Common.{if◌then◌else◌, lowest, all_below}
+use Rattle.rules.specs.Common.{lowest, all_below}
 use Rattle.rules.specs.Records.{NONE, Blocks, slots_of}
 use Rattle.rules.specs.BlockTable.{reaches, in_subtree, mark_subtree}
 use Rattle.rules.specs.Removal.{listed}

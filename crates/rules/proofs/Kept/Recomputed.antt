@@ -1,10 +1,11 @@
 -- All caches worked out: from any kept tables every anchor is right afterwards.
+use Rattle.std.specs.Prelude.{if◌then◌else◌}
 use mathlib.Core.Path.{◌≡◌, refl, ap, ◌∙◌}
 use mathlib.Core.Logic.{inl, inr}
 use mathlib.Core.Bool.{true}
 use Prim.Native.Nat.{ℕ, zero, suc}
 use native.Mathlib.Omega.{arith}
-use Rattle.rules.specs.Common.{if◌then◌else◌, in_order}
+use Rattle.rules.specs.Common.{in_order}
 use Rattle.rules.specs.Hashes.{zero_hash}
 use Rattle.rules.specs.Records.{NONE, Blocks, Heads, used, slots_of, Caches, caches, with_caches}
 use Rattle.rules.specs.Caches.{recompute_used, recompute_all, recompute_head, recompute_heads}

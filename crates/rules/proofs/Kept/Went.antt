@@ -1,10 +1,11 @@
 -- What one call of a list does to the promises, and the calls that name no block anew.
+use Rattle.std.specs.Prelude.{if◌then◌else◌}
 use mathlib.Core.Path.{◌≡◌, refl, sym, ap, ◌∙◌}
 use mathlib.Core.Logic.{◌≢◌, ◌⊎◌, inl, inr}
 use mathlib.Core.Bool.{true, false}
 use mathlib.Core.Option.{Option, some}
 use Prim.Native.Nat.{ℕ}
-use Rattle.rules.specs.Common.{if◌then◌else◌, is_at}
+use Rattle.rules.specs.Common.{is_at}
 use Rattle.rules.specs.Records.{NONE, Blocks, Tables, active, flags_at, block_at}
 use Rattle.rules.specs.Answers.{Answer, refused}
 use Rattle.rules.specs.Calls.{State, Stepped, Call, promote_call, keeping, answering, refuse}

@@ -1,11 +1,11 @@
 -- `best` is the head to ask for among those before `k`, if there is one, and `least` its request time.
+use Rattle.std.specs.Prelude.{if◌then◌else◌}
 use native.Mathlib.Omega.{arith}
 use Prim.Native.Nat.{◌≤◌, ◌-◌}
 use mathlib.Core.Path.{◌≡◌, refl, sym, ◌∙◌}
 use mathlib.Core.Bool.{true, false}
 use mathlib.Core.Logic.{⊎_elim}
 use mathlib.Core.Option.{none, some}
-use Rattle.rules.specs.Common.{if◌then◌else◌}
 use Rattle.rules.specs.Records.{requested_at}
 use Rattle.rules.proofs.Splits.{true-not-false}
 use Rattle.timer.proofs.Choice.{choice, choice-none, choice-later, choice-refused, choice-behind, choice-taken, choice-chosen}

@@ -1,11 +1,11 @@
 -- `least` is the least request time of the stored heads before `k`, if there is one.
+use Rattle.std.specs.Prelude.{if◌then◌else◌}
 use native.Mathlib.Omega.{arith}
 use Prim.Native.Nat.{◌≤◌, ◌-◌}
 use mathlib.Core.Path.{◌≡◌, sym, ◌∙◌, ap}
 use mathlib.Core.Logic.{⊎_elim}
 use mathlib.Core.Option.{none, some}
 use borrow.Author.Tests.{not-true, not-false}
-use Rattle.rules.specs.Common.{if◌then◌else◌}
 use Rattle.rules.specs.Timer.{due}
 use Rattle.timer.proofs.Soonest.{soonest, soonest-none, soonest-stays, soonest-later, soonest-taken, soonest-never, soonest-at}
 use Rattle.timer.proofs.earliest_recovery_deadline.Statement.{statement}

@@ -1,4 +1,6 @@
 // The types that every crate shares: slots and sequences, each its own type, the two records, and the answers.
+#![tactic(auto)]
+
 ghost use Rattle.std.specs.Prelude.{◌≡◌};
 ghost use Rattle.rules.specs.Records.{empty_block, empty_head};
 

@@ -14,7 +14,7 @@ use Rattle.rules.specs.Records.{NONE, Blocks, Tables, slots_of}
 use Rattle.rules.specs.BlockTable.{is_block, find, next_free, find_parent}
 use Rattle.rules.specs.Answers.{slot}
 use Rattle.rules.specs.Calls.{State, Call, admit_call, keeping, slot_or_none, admit_at, takes_slot, admit}
-use Rattle.rules.specs.Promises.{sequence, Occupied, Name, name, slot_returned, Sound}
+use Rattle.rules.specs.Promises.{Occupied, Name, name, slot_returned, Sound}
 use Rattle.rules.proofs.Splits.{split, same?, option?, not_some, and-true, true-not-false, some-not-none}
 use Rattle.rules.proofs.Search.{lowest-holds, lowest-misses}
 use Rattle.rules.proofs.Hashes.{same_refl}

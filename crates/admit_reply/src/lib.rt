@@ -1,4 +1,6 @@
 // What admit answers, read off before anything is written.
+#![tactic(auto)]
+
 ghost use Rattle.std.specs.Prelude.{◌≡◌, ℕ};
 ghost use Rattle.rules.specs.Common.{is_some};
 ghost use Rattle.rules.specs.Records.{tables_of};

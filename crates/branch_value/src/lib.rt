@@ -1,4 +1,6 @@
 // Which of two branches is heavier: port of `Rank::outranks` of src/branch_value.rs.
+#![tactic(auto)]
+
 ghost use Rattle.std.specs.Prelude.{◌≡◌};
 ghost use Rattle.rules.specs.Rank.{outranks as outranks_rule};
 

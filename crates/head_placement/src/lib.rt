@@ -1,4 +1,6 @@
 // The head of a new block: its parent's, moved up, or one more.
+#![tactic(auto)]
+
 ghost use Rattle.std.specs.Prelude.{◌≡◌};
 ghost use Rattle.std.proofs.Math.Option.{some};
 ghost use Rattle.rules.specs.Records.{tables_of};

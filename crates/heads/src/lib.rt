@@ -1,5 +1,7 @@
 // The head table: look-ups, one head as a whole, and which of two tips goes before the other. Port of the lower half of
 // src/chain_heads.rs, with the crates `anchor` to `all_caches`.
+#![tactic(auto)]
+
 ghost use Rattle.std.specs.Prelude.{◌≡◌, ℕ, eqb};
 ghost use Rattle.rules.specs.Common.{lowest};
 ghost use Rattle.rules.specs.Records.{slots_of, tip_at, used, is_connected, stored, head_count, has_stored_head, put_head, heads_of};

@@ -1,4 +1,6 @@
 // Late tails: blocks that waited for the new one are linked to it.
+#![tactic(auto)]
+
 ghost use Rattle.std.specs.Prelude.{◌≡◌, suc, eqb, pos};
 ghost use Rattle.rules.specs.Hashes.{hash_at};
 ghost use Rattle.rules.specs.Records.{tables_of};

@@ -1,10 +1,11 @@
 -- What an insertion of a head leaves of the blocks, and so of the slots named as parents.
+use Rattle.std.specs.Prelude.{if◌then◌else◌}
 use mathlib.Core.Path.{◌≡◌, refl, sym, ap, ◌∙◌}
 use mathlib.Core.Bool.{Bool, false, not}
 use mathlib.Core.List.{List}
 use Prim.Native.Nat.{ℕ}
 use lib.ListN.{length}
-use Rattle.rules.specs.Common.{if◌then◌else◌, is_some}
+use Rattle.rules.specs.Common.{is_some}
 use Rattle.rules.specs.Records.{Blocks, Tables}
 use Rattle.rules.specs.Admission.{first_empty, seat_head, make_room, insert_head}
 use Rattle.rules.proofs.Splits.{split, option?, true-not-false}

@@ -1,5 +1,5 @@
 -- What is remembered of the walks to a root: a byte a slot, 0 where nothing is known yet, 1 where the walk reaches the root.
-use Rattle.std.specs.Prelude.{◌≡◌, ◌≢◌, true, false, not, List, ℕ, eqb, get_or, if◌then◌else◌}
+use Rattle.std.specs.Prelude.{◌≡◌, ◌≢◌, true, not, List, ℕ, eqb, get_or, if◌then◌else◌}
 use Rattle.rules.specs.Kinds.{BlockSlot}
 use Rattle.rules.specs.Records.{NONE, slots_of, parent_at, occupied}
 use Rattle.rules.specs.BlockTable.{reaches}

@@ -1,5 +1,7 @@
 // The blocks of a subtree, in one pass: what a slot's walk has told is remembered in a byte, so that no later walk goes on from there.
 // Whether a listed block is active.
+#![tactic(auto)]
+
 ghost use Rattle.std.specs.Prelude.{◌≡◌, ◌<◌, eqb, length};
 ghost use Rattle.std.proofs.lemmas.List.Edits.{sets};
 ghost use Rattle.rules.specs.Records.{slots_of};

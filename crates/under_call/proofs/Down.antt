@@ -240,9 +240,6 @@ pub record Going (parents sequences first next : List ℕ) (levels from left i b
   pub highest : max most (down_from max (sequence_at sequences) parents sequences left i) ≡ down_from max (sequence_at sequences) parents sequences levels from
 
 module _ (parents sequences first next : List ℕ) (levels from : ℕ) where
-  pub starts : Placed parents sequences first next from → Going parents sequences first next levels from levels from 0 0
-  starts p = record { placed = p; number = omega arith; highest = omega arith }
-
   module _ (left i blocks most : ℕ) (g : Going parents sequences first next levels from left i blocks most) where
     abbrev Whole : Type 0
     Whole = (blocks ≡ down_from ◌+◌ (λ _. 1) parents sequences levels from) × (most ≡ down_from max (sequence_at sequences) parents sequences levels from)

@@ -1,0 +1,7 @@
+-- Bit 0.
+use Rattle.rules.specs.Records.{is_connected}
+use Rattle.heads.proofs.is_connected.Goals as goal
+
+pub returns : goal.returns
+unfolding is_connected
+returns c = rw c.byte_at.ensures

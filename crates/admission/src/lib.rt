@@ -1,4 +1,6 @@
 // Admission: the new block's head, then the late tails. Port of `on_block_admitted` of src/chain_heads.rs.
+#![tactic(auto)]
+
 ghost use Rattle.std.specs.Prelude.{◌≡◌};
 ghost use Rattle.rules.specs.Records.{tables_of};
 ghost use Rattle.rules.specs.Admission.{admitted};

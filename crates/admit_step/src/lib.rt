@@ -1,4 +1,6 @@
 // An admitted block: it is inserted, then the heads are told.
+#![tactic(auto)]
+
 ghost use Rattle.std.specs.Prelude.{◌≡◌};
 ghost use Rattle.rules.specs.Records.{tables_of};
 ghost use Rattle.rules.specs.Answers.{slot_found};

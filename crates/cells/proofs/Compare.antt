@@ -16,9 +16,6 @@ abbrev pub SameUpTo : (a b : List ℕ) (k : ℕ) → Bool → Type 0
 SameUpTo a b k same = (same ≡ true → same_hash a b ≡ same_hash (drop k a) (drop k b)) × (same ≡ false → same_hash a b ≡ false)
 
 module _ (a b : List ℕ) where
-  pub same_none : SameUpTo a b 0 true
-  same_none = (λ t. refl, λ f. true-not-false {b = true} refl f)
-
   module _ (k : ℕ) (same : Bool) where
     pub same_differs : k < length a → k < length b → get_or a k 0 ≢ get_or b k 0 → SameUpTo a b k same → SameUpTo a b (k + 1) false
     same_differs x y ne u = (

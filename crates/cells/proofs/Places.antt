@@ -4,14 +4,14 @@ use mathlib.Core.Logic.{◌≢◌}
 use mathlib.Core.Bool.{Bool, true, false, not}
 use mathlib.Core.List.{List}
 use mathlib.Core.Option.{none, some}
-use Prim.Native.Nat.{ℕ, ◌+◌, ◌-◌, ◌<◌, ◌≤◌}
+use Prim.Native.Nat.{ℕ, ◌<◌, ◌≤◌}
 use native.Mathlib.Omega.{arith}
 use borrow.Author.Tests.{eq-eqb, ne_eqb, lt-ltb, le-ltb, eqb-true, ltb-false, not-true}
 use lib.Dec.{eqb, ltb}
 use lib.ListN.{get_or}
 use Rattle.rules.specs.Common.{lowest}
 use Rattle.rules.specs.Records.{NONE, slots_of}
-use Rattle.rules.proofs.Splits.{split, same?, less?, option?, and-true, true-not-false}
+use Rattle.rules.proofs.Splits.{split, less?, option?, and-true, true-not-false}
 use Rattle.rules.proofs.Search.{lowest-none, lowest-skips, lowest-fewer, lowest-at, lowest-holds, lowest-misses, lowest-least}
 use Rattle.cells.specs.Places.{holds_from, next_at}
 
@@ -19,20 +19,6 @@ module _ (words : List ℕ) (from value : ℕ) where
   -- none of the slots from `from` to before k holds the value
   abbrev pub Differ : ℕ → Type 0
   Differ k = (from ≤ k) × ((j : ℕ) → from ≤ j → j < k → get_or words j NONE ≢ value)
-
-  pub differ-none : Differ from
-  differ-none = (omega arith, λ j l m. absurd (omega arith))
-
-  pub differ-one : (k : ℕ) → get_or words k NONE ≢ value → Differ k → Differ (k + 1)
-  differ-one k ne d = (omega arith, λ j l m. same? j k (λ q. rw q ne) (λ nq. d.1 j l (omega arith)))
-
-  pub differ-eight : (k : ℕ) → ((j : ℕ) → j < 8 → get_or words (k + j) NONE ≢ value) → Differ k → Differ (k + 8)
-  differ-eight k ne d = (
-    omega arith,
-    λ j l m. less? j k
-        (λ b. d.1 j l b)
-        (λ b. let e : k + (j - k) ≡ j = omega arith in rw (← e) (ne (j - k) (omega arith))),
-  )
 
   below : (k : ℕ) → k < from → holds_from words from value k ≡ false
   unfolding holds_from

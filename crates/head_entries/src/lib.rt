@@ -1,5 +1,7 @@
 // Single heads: the next in use, the tip of a connected one, the tail of a stored one, and a missing hash set. Port of what other
 // parts of a station ask of src/chain_heads.rs; its `occupied_heads` is `next_occupied_head`, called again one slot higher.
+#![tactic(auto)]
+
 ghost use Rattle.std.specs.Prelude.{◌≡◌};
 ghost use Rattle.rules.specs.Caches.{next_head, connected_head_at, stored_head_tail, set_missing};
 ghost use Rattle.rules.specs.Answers.{slot_found, head_in_use};

@@ -1,4 +1,6 @@
 // The late tails are linked, then the heads that missed the new hash are worked out again.
+#![tactic(auto)]
+
 ghost use Rattle.std.specs.Prelude.{◌≡◌};
 ghost use Rattle.rules.specs.Hashes.{hash_at};
 ghost use Rattle.rules.specs.Records.{blocks_of, heads_of, tables_of};

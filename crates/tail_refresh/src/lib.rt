@@ -1,4 +1,6 @@
 // Admit's added step: heads whose tail has got a parent are worked out again.
+#![tactic(auto)]
+
 ghost use Rattle.std.specs.Prelude.{◌≡◌};
 ghost use Rattle.rules.specs.Records.{blocks_of, heads_of, tables_of};
 ghost use Rattle.rules.specs.Admission.{outgrown, refresh_outgrown, refresh_tails};

@@ -1,4 +1,6 @@
 // Parent recovery: due times, the choice of a head to ask for, and the deadline. Port of that part of src/chain_heads.rs.
+#![tactic(auto)]
+
 ghost use Rattle.std.specs.Prelude.{◌≡◌, true, ◌&&◌, ◌||◌, eqb, ltb, leb, if◌then◌else◌};
 ghost use Rattle.rules.specs.Records.{tip_at, occupied, stored};
 ghost use Rattle.rules.specs.Eviction.{block_before};

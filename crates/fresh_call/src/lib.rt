@@ -1,4 +1,6 @@
 // Fresh: the covered core, on the record's number.
+#![tactic(auto)]
+
 ghost use Rattle.std.specs.Prelude.{◌≡◌};
 ghost use Rattle.rules.specs.Records.{tables_of};
 ghost use Rattle.rules.specs.Answers.{outcome_said};

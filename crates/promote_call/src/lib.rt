@@ -1,4 +1,6 @@
 // Promote: the covered core, on the record's number.
+#![tactic(auto)]
+
 ghost use Rattle.std.specs.Prelude.{◌≡◌, true};
 ghost use Rattle.rules.specs.Records.{tables_of};
 ghost use Rattle.rules.specs.Promotion.{promoted as promoted_rule};

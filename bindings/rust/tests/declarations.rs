@@ -32,7 +32,7 @@ fn each_entry_point_on_tables() {
 
 #[test]
 fn the_record() {
-    let rules = spaced(&read("crates/rules/src/lib.rt"));
+    let rules = spaced(&without_derives(&read("crates/rules/src/lib.rt")));
     assert!(rules.contains("#[repr(C)] pub struct BlockSlot(pub u32);"));
     assert!(rules.contains("#[repr(C)] pub struct ActiveHead { pub slot: BlockSlot, }"));
     let rust = spaced(&read("bindings/rust/src/raw.rs"));
@@ -43,7 +43,7 @@ fn the_record() {
 
 #[test]
 fn the_record_of_a_screen() {
-    let rules = spaced(&read("crates/rules/src/lib.rt"));
+    let rules = spaced(&without_derives(&read("crates/rules/src/lib.rt")));
     for number in ["BlockSlot", "Sequence", "HeadKind"] {
         assert!(rules.contains(&format!("#[repr(C)] pub struct {number}(pub u32);")), "{number}");
     }
@@ -191,6 +191,11 @@ fn read(file: &str) -> String {
 fn spaced(text: &str) -> String {
     let words: Vec<&str> = text.split_whitespace().collect();
     words.join(" ").replace("( ", "(").replace(" )", ")")
+}
+
+/// What a type derives says nothing of how it is laid out.
+fn without_derives(text: &str) -> String {
+    text.lines().filter(|line| !line.starts_with("#[derive(")).collect::<Vec<_>>().join("\n")
 }
 
 /// The text of a C file without what stands between `/*` and `*/`.

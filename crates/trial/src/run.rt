@@ -1,23 +1,27 @@
 // A trial from its first byte to its listing.
 use crate::streams::{fail, read_some, write_whole};
-use std::io::Read;
+use std::io;
+use std::io::{ErrorKind, Read, Write};
+use std::time::Clock;
 use trial_lines::CHUNK;
 use trial_notes::{Noting, note, note_last};
 use trial_session::{Trial, close, feed};
 
-// The front of what was filled; where that is not whole, nothing.
-fn front(bytes: &[u8], length: usize) -> &[u8] {
+fn write_front(
+    clock: &impl Clock,
+    to: &mut impl Write,
+    bytes: &[u8],
+    length: usize,
+) -> io::Result<()> {
     if length <= bytes.len() {
-        &bytes[..length]
-    } else {
-        &bytes[..0]
+        return write_whole(clock, to, &bytes[..length]);
     }
+    Err(io::Error::from(ErrorKind::InvalidInput))
 }
 
 // Writes what is printed; where that fails says so.
 fn say(rt: &HostRuntime, out: &[u8; trial_session::ROOM], length: usize) -> bool {
-    let written = write_whole(rt, &mut rt.stdout(), front(out, length));
-    match written {
+    match write_front(rt, &mut rt.stdout(), out, length) {
         Ok(()) => true,
         Err(error) => {
             fail(rt, b"standard output", &error);
@@ -28,7 +32,7 @@ fn say(rt: &HostRuntime, out: &[u8; trial_session::ROOM], length: usize) -> bool
 
 // Writes notes. One that cannot be written is left out: its `?` is printed all the same, and there is nowhere to say more.
 fn tell(rt: &HostRuntime, notes: &[u8; trial_notes::ROOM], length: usize) {
-    let _written = write_whole(rt, &mut rt.stderr(), front(notes, length));
+    let _written = write_front(rt, &mut rt.stderr(), notes, length);
 }
 
 // What is read is fed to a session. What it prints goes to standard output and the notes to standard error, for each read before the next.

@@ -9,10 +9,11 @@ ghost use Rattle.rules.specs.Answers.{slot_found};
 use block_counts::adjust_head_ref_count;
 use head_placement::place_head;
 use pending_tails::resolve_pending_tails;
-use rules::{BlockSlot, Found};
+use rules::BlockSlot;
 
 // The new block counts one more and its head is placed. Then the late tails are linked and the heads that missed its hash are worked out
 // again; if the eviction freed the new block itself, both are left out.
+#[tactic(auto, unfolding(rules::specs::Admission::admitted, rules::specs::BlockTable::adjust))]
 pub fn on_block_admitted(
     hashes: &mut [u8],
     parents: &mut [u32],
@@ -26,7 +27,7 @@ pub fn on_block_admitted(
     arrivals: &mut [u64],
     connected: &mut [u8],
     block: BlockSlot,
-    parent: Found,
+    parent: Option<BlockSlot>,
     previous: &[u8],
     arrival: u64,
     active: BlockSlot,

@@ -1,4 +1,5 @@
 -- What admit does, told from its answer.
+use Rattle.std.specs.Prelude.{is_some}
 use mathlib.Core.Path.{◌≡◌, sym, ap, ◌∙◌}
 use mathlib.Core.Bool.{◌&&◌}
 use mathlib.Core.List.{List}
@@ -7,7 +8,6 @@ use native.Mathlib.Omega.{arith}
 use borrow.Author.Tests.{eqb-true}
 use lib.Dec.{eqb}
 use lib.ListN.{length}
-use Rattle.rules.specs.Common.{is_some}
 use Rattle.rules.specs.Hashes.{hash_length, zero_hash, hash_at, same_hash}
 use Rattle.rules.specs.Records.{NONE, Blocks, Tables}
 use Rattle.rules.specs.BlockTable.{find, next_free}

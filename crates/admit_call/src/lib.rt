@@ -9,7 +9,7 @@ ghost use Rattle.rules.specs.Calls.{state_of, admit as admit_rule, Does};
 use admit_reply::reply;
 use admit_step::admit_at;
 use cells::hash_at;
-use rules::{Admitted, BlockSlot, Sequence};
+use rules::{BlockSlot, Refusal, Sequence};
 
 // Inserts the block, tells the heads and returns the new slot; a refusal changes nothing.
 pub fn admit(
@@ -29,7 +29,7 @@ pub fn admit(
     hash: &[u8],
     previous: &[u8],
     arrival: u64,
-) -> Admitted
+) -> Result<BlockSlot, Refusal>
     ensures { Does (admitted_said result)
         (tables_of hashes.new parents.new sequences.new counts.new flags.new
         tips.new tails.new missing.new requested.new arrivals.new connected.new)
@@ -38,32 +38,28 @@ pub fn admit(
         tips.old tails.old missing.old requested.old arrivals.old connected.old) active.0)
         sequence.0 hash.now previous.now arrival) }
 {
-    match reply(
+    let slot = reply(
         hashes, parents, sequences, counts, flags, tips, tails, missing, requested, arrivals,
         connected, sequence, hash, previous,
-    ) {
-        Admitted::Refused(why) => Admitted::Refused(why),
-        Admitted::Slot(slot) => {
-            admit_at(
-                hashes,
-                parents,
-                sequences,
-                counts,
-                flags,
-                tips,
-                tails,
-                missing,
-                requested,
-                arrivals,
-                connected,
-                active,
-                slot,
-                sequence,
-                hash_at(hash, 0),
-                hash_at(previous, 0),
-                arrival,
-            );
-            Admitted::Slot(slot)
-        }
-    }
+    )?;
+    admit_at(
+        hashes,
+        parents,
+        sequences,
+        counts,
+        flags,
+        tips,
+        tails,
+        missing,
+        requested,
+        arrivals,
+        connected,
+        active,
+        slot,
+        sequence,
+        hash_at(hash, 0),
+        hash_at(previous, 0),
+        arrival,
+    );
+    Ok(slot)
 }

@@ -1,2 +1,1 @@
 pub mod OwnHash
-mod Tested

@@ -2,25 +2,14 @@
 #![tactic(auto)]
 
 ghost use Rattle.std.specs.Prelude.{◌≡◌, ℕ};
-ghost use Rattle.rules.specs.Common.{is_some};
 ghost use Rattle.rules.specs.Records.{tables_of};
-ghost use Rattle.rules.specs.BlockTable.{find as find_rule};
 ghost use Rattle.rules.specs.Answers.{admitted_said};
 ghost use Rattle.rules.specs.Calls.{state_of, admit as admit_rule};
 
 use blocks::{find, next_free_index};
 use cells::{hash_at, same_hash};
-use rules::{Admitted, Found, Refusal, Sequence};
+use rules::{BlockSlot, Refusal, Sequence};
 use shape::is_shaped;
-
-fn is_known(hashes: &[u8], sequences: &[u32], sequence: Sequence, hash: [u8; 32]) -> bool
-    ensures { result ≡ is_some (find_rule hashes.now sequences.now sequence.0 hash) }
-{
-    match find(hashes, sequences, sequence, hash) {
-        Found::At(_) => true,
-        Found::Nothing => false,
-    }
-}
 
 // The lowest empty slot, which the block is to get, or the first refusal that applies.
 pub fn reply(
@@ -38,7 +27,7 @@ pub fn reply(
     sequence: Sequence,
     hash: &[u8],
     previous: &[u8],
-) -> Admitted
+) -> Result<BlockSlot, Refusal>
     ensures { (a arrival : ℕ)
         → admitted_said result
         ≡ (admit_rule (state_of (tables_of hashes.now parents.now sequences.now counts.now flags.now
@@ -49,26 +38,20 @@ pub fn reply(
         hashes, parents, sequences, counts, flags, tips, tails, missing, requested, arrivals,
         connected,
     ) {
-        return Admitted::Refused(Refusal::Shape);
+        return Err(Refusal::Shape);
     }
-    if hash.len() != 32 {
-        return Admitted::Refused(Refusal::HashLength);
+    if hash.len() != 32 || previous.len() != 32 {
+        return Err(Refusal::HashLength);
     }
-    if previous.len() != 32 {
-        return Admitted::Refused(Refusal::HashLength);
-    }
-    if sequence.0 == Sequence::NONE_REF.0 {
-        return Admitted::Refused(Refusal::ReservedSequence);
+    if sequence == Sequence::NONE_REF {
+        return Err(Refusal::ReservedSequence);
     }
     let own = hash_at(hash, 0);
     if same_hash(own, [0u8; 32]) {
-        return Admitted::Refused(Refusal::ZeroHash);
+        return Err(Refusal::ZeroHash);
     }
-    if is_known(hashes, sequences, sequence, own) {
-        return Admitted::Refused(Refusal::Known);
+    if find(hashes, sequences, sequence, own).is_some() {
+        return Err(Refusal::Known);
     }
-    match next_free_index(sequences) {
-        Found::Nothing => Admitted::Refused(Refusal::Full),
-        Found::At(slot) => Admitted::Slot(slot),
-    }
+    next_free_index(sequences).ok_or(Refusal::Full)
 }

@@ -3,23 +3,13 @@
 
 ghost use Rattle.std.specs.Prelude.{◌≡◌};
 ghost use Rattle.rules.specs.Records.{tables_of};
-ghost use Rattle.rules.specs.Answers.{slot_found};
-ghost use Rattle.rules.specs.Calls.{state_of, slot_or_none, admit_at};
+ghost use Rattle.rules.specs.Calls.{state_of, admit_at};
 
 use admission::on_block_admitted;
 use block_changes::insert_at;
 use blocks::find_parent;
-use rules::{Block, BlockSlot, Found, Sequence};
+use rules::{Block, BlockSlot, Sequence};
 use tail_refresh::refresh_tails;
-
-fn slot_or_none(found: Found) -> BlockSlot
-    ensures { result.0 ≡ slot_or_none (slot_found found) }
-{
-    match found {
-        Found::At(slot) => slot,
-        Found::Nothing => BlockSlot::NONE_REF,
-    }
-}
 
 // Inserts the block into the slot as Stored, its count 0 and its parent from `find_parent`, tells the heads and refreshes the tails.
 pub fn admit_at(
@@ -48,10 +38,9 @@ pub fn admit_at(
         slot.0 sequence.0 own previous arrival }
 {
     let parent = find_parent(hashes, sequences, sequence, previous);
-    let below = slot_or_none(parent);
     let block = Block {
         hash: own,
-        parent: below,
+        parent: parent.unwrap_or(BlockSlot::NONE_REF),
         sequence,
         count: 0,
         flags: 0,

@@ -9,7 +9,7 @@ ghost use Rattle.rules.specs.Caches.{recompute, refresh_head, recompute_used, re
 use caches::recompute_caches;
 use cells::slots;
 use heads::{is_used, slot_of_head};
-use rules::{BlockSlot, FoundHead, HeadSlot};
+use rules::{BlockSlot, HeadSlot};
 
 // Of a head with no arriving block.
 fn recompute_alone(
@@ -59,11 +59,10 @@ pub fn refresh_head(
         ≡ refresh_head parents.now sequences.now flags.now tips.now
         (caches_of tails.old missing.old requested.old connected.old) tip.0 }
 {
-    match slot_of_head(tips, tip) {
-        FoundHead::At(head) => recompute_alone(
+    if let Some(head) = slot_of_head(tips, tip) {
+        recompute_alone(
             parents, sequences, flags, tips, tails, missing, requested, connected, head,
-        ),
-        FoundHead::Nothing => {}
+        );
     }
 }
 
@@ -104,9 +103,7 @@ pub fn recompute_all_caches(
         ≡ recompute_all parents.now sequences.now flags.now tips.now
         (caches_of tails.old missing.old requested.old connected.old) }
 {
-    let m = slots(tips);
-    let mut k: u32 = 0;
-    while k < m {
+    for k in 0..slots(tips) {
         recompute_used(
             parents,
             sequences,
@@ -118,6 +115,5 @@ pub fn recompute_all_caches(
             connected,
             HeadSlot(k),
         );
-        k += 1;
     }
 }

@@ -6,7 +6,7 @@ ghost use Rattle.rules.specs.Anchor.{locate_anchor};
 ghost use Rattle.rules.specs.Answers.{anchor_located};
 
 use blocks::{is_occupied, is_on_active_chain};
-use cells::{slots, word_at};
+use cells::{cell_at, slots};
 use rules::{BlockSlot, Located, Sequence};
 
 fn locate_by_total_reads(
@@ -17,26 +17,23 @@ fn locate_by_total_reads(
 ) -> Located
     ensures { anchor_located result ≡ locate_anchor parents.now sequences.now flags.now start.0 }
 {
-    let n = slots(sequences);
-    let mut current = start.0;
-    let mut last = start.0;
-    let mut visits: u32 = 0;
-    while visits < n {
-        if !is_occupied(sequences, BlockSlot(current)) {
-            return Located::Tail(BlockSlot(last));
+    let mut current = start;
+    let mut last = start;
+    for _ in 0..slots(sequences) {
+        if !is_occupied(sequences, current) {
+            return Located::Tail(last);
         }
-        if is_on_active_chain(flags, BlockSlot(current)) {
-            return Located::Connection(BlockSlot(current));
+        if is_on_active_chain(flags, current) {
+            return Located::Connection(current);
         }
-        let parent = word_at(parents, current);
-        if parent == BlockSlot::NONE_REF.0 {
-            return Located::Tail(BlockSlot(current));
+        let parent = BlockSlot(cell_at(parents, current.0));
+        if parent == BlockSlot::NONE_REF {
+            return Located::Tail(current);
         }
         last = current;
         current = parent;
-        visits += 1;
     }
-    Located::Tail(BlockSlot(last))
+    Located::Tail(last)
 }
 
 // Where no field is shorter than the sequences, one test of the slot serves for all; NONE_REF is past the end like any other.
@@ -45,30 +42,21 @@ pub fn locate_anchor(parents: &[u32], sequences: &[u32], flags: &[u8], start: Bl
 {
     let n = slots(sequences);
     let len = n as usize;
-    if len == sequences.len() {
-        if len <= parents.len() {
-            if len <= flags.len() {
-                let mut current = start.0;
-                let mut last = start.0;
-                let mut visits: u32 = 0;
-                while visits < n {
-                    if current >= n {
-                        return Located::Tail(BlockSlot(last));
-                    }
-                    let k = current as usize;
-                    if sequences[k] == Sequence::NONE_REF.0 {
-                        return Located::Tail(BlockSlot(last));
-                    }
-                    if flags[k] % 2 == 1 {
-                        return Located::Connection(BlockSlot(current));
-                    }
-                    last = current;
-                    current = parents[k];
-                    visits += 1;
-                }
-                return Located::Tail(BlockSlot(last));
+    if len == sequences.len() && len <= parents.len() && len <= flags.len() {
+        let mut current = start;
+        let mut last = start;
+        for _ in 0..n {
+            let k = current.0 as usize;
+            if len <= k || sequences[k] == Sequence::NONE_REF.0 {
+                return Located::Tail(last);
             }
+            if flags[k] % 2 == 1 {
+                return Located::Connection(current);
+            }
+            last = current;
+            current = BlockSlot(parents[k]);
         }
+        return Located::Tail(last);
     }
     locate_by_total_reads(parents, sequences, flags, start)
 }

@@ -7,9 +7,10 @@ ghost use Rattle.rules.specs.BlockTable.{delete as delete_rule, insertion, inser
 ghost use Rattle.rules.specs.Answers.{insertion_made};
 
 use blocks::{is_occupied, next_free_index};
-use cells::{put_byte, put_hash, put_word, slots};
-use rules::{Block, BlockSlot, Found, Inserted, Sequence};
+use cells::{put_cell, put_hash, slots};
+use rules::{Block, BlockSlot, InsertError, Sequence};
 
+#[tactic(auto, unfolding(rules::specs::Records::put_block))]
 fn put_block(
     hashes: &mut [u8],
     parents: &mut [u32],
@@ -22,15 +23,15 @@ fn put_block(
     ensures { blocks_of hashes.new parents.new sequences.new counts.new flags.new
         ≡ put_block (blocks_of hashes.old parents.old sequences.old counts.old flags.old) slot.0 block }
 {
-    let hash = block.hash;
-    put_hash(hashes, slot.0, hash);
-    put_word(parents, slot.0, block.parent.0);
-    put_word(sequences, slot.0, block.sequence.0);
-    put_byte(counts, slot.0, block.count);
-    put_byte(flags, slot.0, block.flags);
+    put_hash(hashes, slot.0, block.hash);
+    put_cell(parents, slot.0, block.parent.0);
+    put_cell(sequences, slot.0, block.sequence.0);
+    put_cell(counts, slot.0, block.count);
+    put_cell(flags, slot.0, block.flags);
 }
 
 // Writes the block into the slot, be it occupied or empty; beyond n nothing changes.
+#[tactic(auto, unfolding(rules::specs::BlockTable::insert_at))]
 pub fn insert_at(
     hashes: &mut [u8],
     parents: &mut [u32],
@@ -49,6 +50,7 @@ pub fn insert_at(
 }
 
 // Writes the block into the lowest empty slot, which it gives; with the reserved sequence or in a full table nothing changes.
+#[tactic(auto, unfolding(rules::specs::BlockTable::insertion, rules::specs::BlockTable::insert))]
 pub fn insert(
     hashes: &mut [u8],
     parents: &mut [u32],
@@ -56,22 +58,21 @@ pub fn insert(
     counts: &mut [u8],
     flags: &mut [u8],
     block: Block,
-) -> Inserted
+) -> Result<BlockSlot, InsertError>
     ensures { (insertion_made result ≡ insertion sequences.old block)
         × (blocks_of hashes.new parents.new sequences.new counts.new flags.new ≡ insert_rule
         (blocks_of hashes.old parents.old sequences.old counts.old flags.old) block) }
 {
-    if block.sequence.0 == Sequence::NONE_REF.0 {
-        return Inserted::ReservedSequence;
+    if block.sequence == Sequence::NONE_REF {
+        return Err(InsertError::ReservedSequence);
     }
-    let Found::At(slot) = next_free_index(sequences) else {
-        return Inserted::Full;
-    };
+    let slot = next_free_index(sequences).ok_or(InsertError::Full)?;
     insert_at(hashes, parents, sequences, counts, flags, slot, block);
-    Inserted::At(slot)
+    Ok(slot)
 }
 
 // Makes an occupied slot the empty record and tells whether it was occupied; an empty slot keeps its fields.
+#[tactic(auto, unfolding(rules::specs::BlockTable::delete))]
 pub fn delete(
     hashes: &mut [u8],
     parents: &mut [u32],
@@ -100,13 +101,15 @@ pub fn delete(
 }
 
 // Sets the slot's parent; an empty slot is written too, and out of range nothing changes.
+#[tactic(auto, unfolding(rules::specs::BlockTable::resolve_parent))]
 pub fn resolve_parent_ref(parents: &mut [u32], slot: BlockSlot, parent: BlockSlot)
     ensures { parents.new ≡ resolve_parent parents.old slot.0 parent.0 }
 {
-    put_word(parents, slot.0, parent.0);
+    put_cell(parents, slot.0, parent.0);
 }
 
 // Sets the slot's parent and tells whether the slot is occupied; an empty slot keeps its parent.
+#[tactic(auto, unfolding(rules::specs::BlockTable::set_parent, rules::specs::BlockTable::set_occupied, rules::specs::BlockTable::resolve_parent))]
 pub fn set_parent_ref(
     parents: &mut [u32],
     sequences: &[u32],

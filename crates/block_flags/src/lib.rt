@@ -6,20 +6,18 @@ ghost use Rattle.rules.specs.Records.{occupied, status_number, with_status, with
 ghost use Rattle.rules.specs.BlockTable.{set_on_active_chain, set_status};
 
 use blocks::is_occupied;
-use cells::{byte_at, put_byte};
+use cells::{cell_at, put_cell};
 use rules::{BlockSlot, BlockStatus};
 
 // The byte with bit 0 set or cleared, its other bits as they were.
 pub fn with_bit0(byte: u8, value: bool) -> u8
     ensures { result ≡ with_bit0 byte value }
 {
-    if value {
-        return byte / 2 * 2 + 1;
-    }
-    byte / 2 * 2
+    byte / 2 * 2 + u8::from(value)
 }
 
 // Sets or clears bit 0 of the slot's flags and tells whether the slot is occupied; an empty slot keeps its flags.
+#[tactic(auto, unfolding(rules::specs::BlockTable::set_on_active_chain, rules::specs::BlockTable::set_occupied))]
 pub fn set_on_active_chain(
     sequences: &[u32],
     flags: &mut [u8],
@@ -32,23 +30,20 @@ pub fn set_on_active_chain(
     if !is_occupied(sequences, slot) {
         return false;
     }
-    let bits = byte_at(flags, slot.0);
-    put_byte(flags, slot.0, with_bit0(bits, value));
+    let bits = cell_at(flags, slot.0);
+    put_cell(flags, slot.0, with_bit0(bits, value));
     true
 }
 
+#[tactic(auto, unfolding(rules::specs::Records::with_status))]
 fn with_status(bits: u8, status: BlockStatus) -> u8
     ensures { result ≡ with_status bits (status_number status) }
 {
-    let rest = bits / 8 * 8 + bits % 2;
-    match status {
-        BlockStatus::Stored => rest,
-        BlockStatus::Connected => rest + 2,
-        BlockStatus::Active => rest + 4,
-    }
+    bits / 8 * 8 + bits % 2 + status as u8 * 2
 }
 
 // Sets bits 1 and 2 of the slot's flags and tells whether the slot is occupied; an empty slot keeps its flags.
+#[tactic(auto, unfolding(rules::specs::BlockTable::set_status, rules::specs::BlockTable::set_occupied))]
 pub fn set_status(sequences: &[u32], flags: &mut [u8], slot: BlockSlot, status: BlockStatus) -> bool
     ensures { (result ≡ occupied sequences.now slot.0)
         × (flags.new ≡ set_status sequences.now flags.old slot.0 (status_number status)) }
@@ -56,7 +51,7 @@ pub fn set_status(sequences: &[u32], flags: &mut [u8], slot: BlockSlot, status: 
     if !is_occupied(sequences, slot) {
         return false;
     }
-    let bits = byte_at(flags, slot.0);
-    put_byte(flags, slot.0, with_status(bits, status));
+    let bits = cell_at(flags, slot.0);
+    put_cell(flags, slot.0, with_status(bits, status));
     true
 }

@@ -1,39 +1,49 @@
 -- A block is looked for only where the sequence fits.
-use mathlib.Core.Path.{◌≡◌, refl, ◌∙◌}
+use mathlib.Core.Path.{◌≡◌}
 use mathlib.Core.Logic.{◌≢◌}
 use mathlib.Core.Bool.{false, not}
 use mathlib.Core.List.{List}
-use mathlib.Core.Option.{none}
-use Prim.Native.Nat.{ℕ}
+use Rattle.std.specs.Prelude.{None}
+use Prim.Native.Nat.{ℕ, ◌+◌, ◌<◌}
 use native.Mathlib.Omega.{arith}
-use borrow.Author.Tests.{eq-eqb, ne_eqb}
 use lib.Dec.{eqb}
 use Rattle.rules.specs.Common.{lowest}
 use Rattle.rules.specs.Hashes.{hash_at, same_hash}
-use Rattle.rules.specs.Records.{NONE, sequence_at, occupied}
+use Rattle.rules.specs.Records.{NONE, slots_of, sequence_at, occupied}
 use Rattle.rules.specs.BlockTable.{is_block}
-use Rattle.rules.proofs.Splits.{split, same?}
-use Rattle.rules.proofs.Search.{lowest-none, lowest-skips}
+use Rattle.rules.proofs.Search.{lowest-none, lowest-skips, lowest-next}
+use Rattle.cells.specs.Places.{next_at}
+use Rattle.cells.proofs.Places.{Searched, search-first, search-from, lowest-there, lowest-nowhere}
 
 pub free : (sequences : List ℕ) (i : ℕ) → not (occupied sequences i) ≡ eqb (sequence_at sequences i) NONE
 unfolding occupied
-free sequences i = split (eqb (sequence_at sequences i) NONE) (λ t. rw t) (λ f. rw f)
+free sequences i = grind arith
+
+-- what the next slot without a block says of the lowest
+pub ruleset next_free_slot = (free, lowest-there, lowest-nowhere)
 
 module _ (hashes sequences : List ℕ) (sequence : ℕ) (hash : List ℕ) where
-  pub other : (i : ℕ) → sequence_at sequences i ≢ sequence → is_block hashes sequences sequence hash i ≡ false
+  other : (i : ℕ) → sequence_at sequences i ≢ sequence → is_block hashes sequences sequence hash i ≡ false
   unfolding is_block
-  other i ne = split (occupied sequences i)
-      (λ t. rw (t, ne_eqb (sequence_at sequences i) sequence ne))
-      (λ f. rw f)
+  other i ne = grind arith
 
-  pub fits : (i : ℕ) → sequence ≢ NONE → sequence_at sequences i ≡ sequence → is_block hashes sequences sequence hash i ≡ same_hash (hash_at hashes i) hash
+  pub fits : (i : ℕ) → sequence ≢ NONE → sequence_at sequences i ≡ sequence
+      → is_block hashes sequences sequence hash i ≡ same_hash (hash_at hashes i) hash
   unfolding is_block occupied
-  fits i ne e = rw (e, ne_eqb sequence NONE ne, eq-eqb sequence sequence refl)
+  fits i ne e = grind arith
 
-  empty : (i : ℕ) → sequence_at sequences i ≡ NONE → is_block hashes sequences sequence hash i ≡ false
+  empty : (i : ℕ) → sequence ≡ NONE → is_block hashes sequences sequence hash i ≡ false
   unfolding is_block occupied
-  empty i q = rw (eq-eqb (sequence_at sequences i) NONE q)
+  empty i q = grind arith
 
   -- an empty slot is no block
-  pub none_found : (n : ℕ) → sequence ≡ NONE → lowest (is_block hashes sequences sequence hash) n ≡ none
-  none_found n e = lowest-skips _ 0 n (omega arith) (lowest-none _) (λ i a b. same? (sequence_at sequences i) sequence (λ q. empty i (q ∙ e)) (other i))
+  pub none_found : (n : ℕ) → sequence ≡ NONE → lowest (is_block hashes sequences sequence hash) n ≡ None
+  none_found n e = lowest-skips _ 0 n (omega arith) (lowest-none _) (λ i a b. empty i e)
+
+  pub found-first : Searched sequences sequence (is_block hashes sequences sequence hash) (next_at sequences 0 sequence)
+  found-first = search-first sequences sequence _ other
+
+  pub found-next : (i : ℕ) → i < slots_of sequences → Searched sequences sequence (is_block hashes sequences sequence hash) i
+      → is_block hashes sequences sequence hash i ≡ false
+      → Searched sequences sequence (is_block hashes sequences sequence hash) (next_at sequences (i + 1) sequence)
+  found-next i l s f = search-from sequences sequence _ other (i + 1) (omega arith) (lowest-next _ i s.1.0 f)

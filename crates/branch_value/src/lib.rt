@@ -4,8 +4,6 @@
 ghost use Rattle.std.specs.Prelude.{◌≡◌};
 ghost use Rattle.rules.specs.Rank.{outranks as outranks_rule};
 
-use cells::hash_less;
-
 // What a branch is ranked by: its value, its length and its hash.
 #[derive(Clone, Copy)]
 pub struct Rank {
@@ -21,14 +19,10 @@ impl Rank {
             ≡ outranks_rule (record { value = self.value; length = self.len; hash = self.hash })
             (record { value = other.value; length = other.len; hash = other.hash }) }
     {
-        if self.value != other.value {
-            return other.value < self.value;
-        }
-        if self.len != other.len {
-            return other.len < self.len;
-        }
-        let mine = self.hash;
-        let theirs = other.hash;
-        hash_less(mine, theirs)
+        self.value
+            .cmp(&other.value)
+            .then(self.len.cmp(&other.len))
+            .then(other.hash.cmp(&self.hash))
+            .is_gt()
     }
 }

@@ -7,7 +7,7 @@ ghost use Rattle.rules.specs.Caches.{connection_kept, tail_kept, recompute};
 
 use anchor::locate_anchor;
 use block_flags::with_bit0;
-use cells::{byte_at, put_byte, put_hash, put_time, put_word, word_at};
+use cells::{cell_at, put_cell, put_hash};
 use missing_hashes::keep_missing_hash;
 use rules::{BlockSlot, HeadSlot, Located};
 
@@ -22,11 +22,11 @@ fn keep_connection(
     ensures { caches_of tails.new missing.new requested.new connected.new
         ≡ connection_kept (caches_of tails.old missing.old requested.old connected.old) head.0 at.0 }
 {
-    let bits = with_bit0(byte_at(connected, head.0), true);
-    put_word(tails, head.0, at.0);
+    let bits = with_bit0(cell_at(connected, head.0), true);
+    put_cell(tails, head.0, at.0);
     put_hash(missing, head.0, [0u8; 32]);
-    put_time(requested, head.0, 0);
-    put_byte(connected, head.0, bits);
+    put_cell(requested, head.0, 0);
+    put_cell(connected, head.0, bits);
 }
 
 fn keep_tail(
@@ -45,9 +45,9 @@ fn keep_tail(
         (caches_of tails.old missing.old requested.now connected.old) head.0 at.0 arriving.0
         previous.now }
 {
-    let bits = with_bit0(byte_at(connected, head.0), false);
-    put_word(tails, head.0, at.0);
-    put_byte(connected, head.0, bits);
+    let bits = with_bit0(cell_at(connected, head.0), false);
+    put_cell(tails, head.0, at.0);
+    put_cell(connected, head.0, bits);
     keep_missing_hash(
         tips, tails, missing, connected, head, at, arriving, previous,
     );
@@ -72,7 +72,7 @@ pub fn recompute_caches(
         ≡ recompute parents.now sequences.now flags.now tips.now
         (caches_of tails.old missing.old requested.old connected.old) head.0 arriving.0 previous.now }
 {
-    let tip = BlockSlot(word_at(tips, head.0));
+    let tip = BlockSlot(cell_at(tips, head.0));
     match locate_anchor(parents, sequences, flags, tip) {
         Located::Connection(at) => keep_connection(tails, missing, requested, connected, head, at),
         Located::Tail(at) => {

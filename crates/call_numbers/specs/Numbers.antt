@@ -1,6 +1,5 @@
 -- The numbers and lists that a call's answer is passed on as.
-use Rattle.std.specs.Prelude.{◌≡◌, List, ℕ, ◌*◌, eqb, length, set, if◌then◌else◌}
-use Rattle.std.proofs.Math.Option.{Option, none, some}
+use Rattle.std.specs.Prelude.{◌≡◌, List, ℕ, ◌*◌, eqb, length, set, if◌then◌else◌, Option, None, Some, Result, Ok, Err}
 use Rattle.std.proofs.lemmas.List.Edits.{sets}
 use denote.Triple.Both.{Both}
 use denote.MutBor.{MutBor}
@@ -9,8 +8,7 @@ use Rattle.rules.specs.Records.{NONE, Tables, Lent}
 use Rattle.rules.specs.Calls.{Stepped}
 use Rattle.rules.specs.Hashes.{put_hash}
 use Rattle.rules.specs.declared.HeadRow.{HeadRow}
-use Rattle.rules.specs.declared.Screened.{Screened}
-use Rattle.rules.specs.declared.Screened.TheVariants.{Rows, Refused}
+use Rattle.rules.specs.declared.Refusal.{Refusal}
 use Rattle.rules.specs.Answers.{Answer, refused, done, slot, freed, hangs, shown, request, none_due, due_at, never_due, refusal_number}
 
 -- a refusal times 2^32, or the slot, the number of blocks freed or hanging, that of records shown, the head asked for (NONE_REF is none
@@ -79,10 +77,10 @@ highest_to none_due words = words
 highest_to (due_at time) words = words
 highest_to never_due words = words
 
--- an answer of screen is passed on without its records: their number, or the refusal
-abbrev pub screened_number : (answer : Screened) → ℕ
-screened_number (Rows number) = number
-screened_number (Refused why) = refusal_number why * 4294967296
+-- what a call gives by its number, or its refusal: of screen the number of records, which are passed on beside it
+abbrev pub result_number : {Given : Type 0} (number : Given → ℕ) (answer : Result Given Refusal) → ℕ
+result_number number (Ok given) = number given
+result_number number (Err why) = refusal_number why * 4294967296
 
 -- the records of a screen are written to the first places of a list; its other places keep what they hold
 abbrev pub rows_to : (answer : Answer) (list : List HeadRow) → List HeadRow
@@ -99,7 +97,7 @@ rows_to never_due list = list
 
 -- whether a retry span is given, and the span
 unfoldable pub span_from : (given : ℕ) (span : Time) → Option Time
-span_from given span = if eqb given 0 then none else some span
+span_from given span = if eqb given 0 then None else Some span
 
 -- ---- what a contract says of a call whose answer is passed on as a number
 

@@ -2,113 +2,84 @@
 #![tactic(auto)]
 
 ghost use Rattle.std.specs.Prelude.{◌≡◌, ◌*◌};
-ghost use Rattle.rules.specs.Answers.{refusal_number, outcome_said, admitted_said, removed_said, hanging_said, timed_said, deadline_said, span_given};
-ghost use Rattle.call_numbers.specs.Numbers.{answer_number, screened_number, claimed_to, wanted_to, time_to, highest_to, span_from};
+ghost use Rattle.rules.specs.Answers.{refusal_number, hanging_said, timer_said, deadline_said};
+ghost use Rattle.call_numbers.specs.Numbers.{answer_number, result_number, claimed_to, wanted_to, time_to, highest_to, span_from};
 
-use cells::{put_hash, put_time, put_word};
-use query_numbers::refusal_number;
-use rules::{
-    Admitted, DeadlineAnswer, Hanging, HeadSlot, Outcome, Refusal, Removed, Screened, Span, Timed,
-};
+use cells::{put_cell, put_hash};
+use query_numbers::Numbered;
+use rules::{Hanging, HeadSlot, Refusal, Request};
 
-fn refusal(why: Refusal) -> u64
+// The refusal in the upper half.
+pub fn refusal(why: Refusal) -> u64
     ensures { result ≡ refusal_number why * 4294967296 }
 {
-    refusal_number(why) as u64 * 4294967296
+    why.number() as u64 * 4294967296
 }
 
-// 0 for done, or the refusal in the upper half.
-pub fn outcome_number(outcome: Outcome) -> u64
-    ensures { result ≡ answer_number (outcome_said outcome) }
+// What a call gives, as its number, or the refusal in the upper half.
+pub fn call_number<A: Numbered>(answer: Result<A, Refusal>) -> u64
+    ensures { result ≡ result_number A.number answer }
 {
-    match outcome {
-        Outcome::Done => 0,
-        Outcome::Refused(why) => refusal(why),
-    }
-}
-
-// The new block's slot, or the refusal in the upper half.
-pub fn admitted_number(admitted: Admitted) -> u64
-    ensures { result ≡ answer_number (admitted_said admitted) }
-{
-    match admitted {
-        Admitted::Slot(slot) => slot.0 as u64,
-        Admitted::Refused(why) => refusal(why),
-    }
-}
-
-// How many blocks were freed, or the refusal in the upper half.
-pub fn removed_number(removed: Removed) -> u64
-    ensures { result ≡ answer_number (removed_said removed) }
-{
-    match removed {
-        Removed::Freed(blocks) => blocks as u64,
-        Removed::Refused(why) => refusal(why),
+    match answer {
+        Ok(given) => given.number() as u64,
+        Err(refused) => refusal(refused),
     }
 }
 
 // How many blocks hang, with the highest sequence among them written to the first place of the list, or the refusal in the upper half.
-pub fn hanging_number(hanging: Hanging, highest: &mut [u32]) -> u64
-    ensures { (result ≡ answer_number (hanging_said hanging))
-        × (highest.new ≡ highest_to (hanging_said hanging) highest.old) }
+pub fn hanging_number(answer: Result<Hanging, Refusal>, highest: &mut [u32]) -> u64
+    ensures { (result ≡ answer_number (hanging_said answer))
+        × (highest.new ≡ highest_to (hanging_said answer) highest.old) }
 {
-    match hanging {
-        Hanging::Blocks(blocks, sequence) => {
-            put_word(highest, 0, sequence.0);
-            blocks as u64
+    match answer {
+        Ok(hanging) => {
+            put_cell(highest, 0, hanging.highest.0);
+            hanging.blocks as u64
         }
-        Hanging::Refused(why) => refusal(why),
-    }
-}
-
-// How many records were shown, or the refusal in the upper half.
-pub fn screened_number(screened: Screened) -> u64
-    ensures { result ≡ screened_number screened }
-{
-    match screened {
-        Screened::Rows(rows) => rows as u64,
-        Screened::Refused(why) => refusal(why),
+        Err(why) => refusal(why),
     }
 }
 
 // The head, its claimed sequence and its missing hash.
-pub fn timed_number(timed: Timed, hash: [u8; 32], claimed: &mut [u32], wanted: &mut [u8]) -> u64
-    ensures { (result ≡ answer_number (timed_said timed hash))
-        × ((claimed.new ≡ claimed_to (timed_said timed hash) claimed.old)
-        × (wanted.new ≡ wanted_to (timed_said timed hash) wanted.old)) }
+pub fn timed_number(
+    answer: Result<Option<Request>, Refusal>,
+    claimed: &mut [u32],
+    wanted: &mut [u8],
+) -> u64
+    ensures { (result ≡ answer_number (timer_said answer))
+        × ((claimed.new ≡ claimed_to (timer_said answer) claimed.old)
+        × (wanted.new ≡ wanted_to (timer_said answer) wanted.old)) }
 {
-    match timed {
-        Timed::Request(head, claims) => {
-            put_word(claimed, 0, claims.0);
-            put_hash(wanted, 0, hash);
-            head.0 as u64
+    match answer {
+        Ok(Some(request)) => {
+            put_cell(claimed, 0, request.claimed.0);
+            put_hash(wanted, 0, request.missing);
+            request.head.0 as u64
         }
-        Timed::NoneDue => HeadSlot::NONE_REF.0 as u64,
-        Timed::Refused(why) => refusal(why),
+        Ok(None) => HeadSlot::NONE_REF.0 as u64,
+        Err(why) => refusal(why),
     }
 }
 
 // 1, with the time written to the first place of the list, or 0 for never, or the refusal in the upper half.
-pub fn deadline_number(deadline: DeadlineAnswer, time: &mut [u64]) -> u64
-    ensures { (result ≡ answer_number (deadline_said deadline))
-        × (time.new ≡ time_to (deadline_said deadline) time.old) }
+pub fn deadline_number(answer: Result<Option<u64>, Refusal>, time: &mut [u64]) -> u64
+    ensures { (result ≡ answer_number (deadline_said answer))
+        × (time.new ≡ time_to (deadline_said answer) time.old) }
 {
-    match deadline {
-        DeadlineAnswer::At(due) => {
-            put_time(time, 0, due);
+    match answer {
+        Ok(Some(due)) => {
+            put_cell(time, 0, due);
             1
         }
-        DeadlineAnswer::Never => 0,
-        DeadlineAnswer::Refused(why) => refusal(why),
+        Ok(None) => 0,
+        Err(why) => refusal(why),
     }
 }
 
 // The retry span, unset where `given` is 0; a span of 0 ticks is a span.
-pub fn span_from(given: u32, span: u64) -> Span
-    ensures { span_given result ≡ span_from given span }
+#[tactic(auto, unfolding(crate::specs::Numbers::span_from))]
+pub fn span_from(given: u32, span: u64) -> Option<u64>
+    ensures { result ≡ span_from given span }
 {
-    if given == 0 {
-        return Span::Unset;
-    }
-    Span::Ticks(span)
+    if given == 0 { None } else { Some(span) }
 }

@@ -1,2 +1,3 @@
 pub mod Compare
 pub mod Places
+pub mod Whole

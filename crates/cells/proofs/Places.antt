@@ -3,17 +3,22 @@ use mathlib.Core.Path.{◌≡◌, sym, ◌∙◌}
 use mathlib.Core.Logic.{◌≢◌}
 use mathlib.Core.Bool.{Bool, true, false, not}
 use mathlib.Core.List.{List}
-use mathlib.Core.Option.{none, some}
+use Rattle.std.specs.Prelude.{None, Some}
 use Prim.Native.Nat.{ℕ, ◌<◌, ◌≤◌}
 use native.Mathlib.Omega.{arith}
 use borrow.Author.Tests.{eq-eqb, ne_eqb, lt-ltb, le-ltb, eqb-true, ltb-false, not-true}
 use lib.Dec.{eqb, ltb}
-use lib.ListN.{get_or}
+use lib.ListN.{length, get_or}
 use Rattle.rules.specs.Common.{lowest}
 use Rattle.rules.specs.Records.{NONE, slots_of}
+use Rattle.rules.proofs.Cells.{get_d_any}
 use Rattle.rules.proofs.Splits.{split, less?, option?, and-true, true-not-false}
 use Rattle.rules.proofs.Search.{lowest-none, lowest-skips, lowest-fewer, lowest-at, lowest-holds, lowest-misses, lowest-least}
 use Rattle.cells.specs.Places.{holds_from, next_at}
+
+-- in range the default does not matter
+pub read_there : (words : List ℕ) (i : ℕ) → i < length words → get_or words i NONE ≡ get_or words i 0
+read_there words i l = get_d_any words i NONE 0 l
 
 module _ (words : List ℕ) (from value : ℕ) where
   -- none of the slots from `from` to before k holds the value
@@ -39,15 +44,15 @@ module _ (words : List ℕ) (from value : ℕ) where
       (ltb-false k from (not-true (ltb k from) p.0), eqb-true (get_or words k NONE) value p.1)
 
   -- a search from 0 has found nothing before k
-  passed : (k : ℕ) → ((j : ℕ) → from ≤ j → j < k → get_or words j NONE ≢ value) → lowest (holds_from words from value) k ≡ none
+  passed : (k : ℕ) → ((j : ℕ) → from ≤ j → j < k → get_or words j NONE ≢ value) → lowest (holds_from words from value) k ≡ None
   passed k d = lowest-skips _ 0 k (omega arith) (lowest-none _)
       (λ j l m. less? j from (below j) (λ b. differs j (d j b m)))
 
-  at_none : lowest (holds_from words from value) (slots_of words) ≡ none → next_at words from value ≡ slots_of words
+  at_none : lowest (holds_from words from value) (slots_of words) ≡ None → next_at words from value ≡ slots_of words
   unfolding next_at
   at_none e = rw (e, next_at)
 
-  at_some : (k : ℕ) → lowest (holds_from words from value) (slots_of words) ≡ some k → next_at words from value ≡ k
+  at_some : (k : ℕ) → lowest (holds_from words from value) (slots_of words) ≡ Some k → next_at words from value ≡ k
   unfolding next_at
   at_some k e = rw (e, next_at)
 
@@ -58,7 +63,8 @@ module _ (words : List ℕ) (from value : ℕ) where
   next-nothing k d l = sym (at_none (passed (slots_of words) (λ j a m. d.1 j a (omega arith))))
 
   -- what callers use: the slot holds the value, and none from `from` to before it does
-  pub next-holds : next_at words from value < slots_of words → (from ≤ next_at words from value) × (get_or words (next_at words from value) NONE ≡ value)
+  pub next-holds : next_at words from value < slots_of words
+      → (from ≤ next_at words from value) × (get_or words (next_at words from value) NONE ≡ value)
   next-holds l = option? (lowest (holds_from words from value) (slots_of words))
       (λ e. absurd (omega (arith, at_none e)))
       (λ k e. rw (at_some k e) (held k (lowest-holds _ (slots_of words) k e).1))
@@ -81,10 +87,10 @@ module _ (words : List ℕ) (from value : ℕ) where
 module _ (words : List ℕ) (value : ℕ) (test : ℕ → Bool) where
   -- nothing before i passes, and i has the value if it is a slot
   abbrev pub Searched : ℕ → Type 0
-  Searched i = (i ≤ slots_of words) × ((lowest test i ≡ none) × (i < slots_of words → get_or words i NONE ≡ value))
+  Searched i = (i ≤ slots_of words) × ((lowest test i ≡ None) × (i < slots_of words → get_or words i NONE ≡ value))
 
   module _ (other : (j : ℕ) → get_or words j NONE ≢ value → test j ≡ false) where
-    pub search-from : (from : ℕ) → from ≤ slots_of words → lowest test from ≡ none → Searched (next_at words from value)
+    pub search-from : (from : ℕ) → from ≤ slots_of words → lowest test from ≡ None → Searched (next_at words from value)
     search-from from l e =
         let i = next_at words from value in
         let few = next-few words from value in (
@@ -103,10 +109,10 @@ module _ (words : List ℕ) (value : ℕ) (test : ℕ → Bool) (says : (j : ℕ
   first : Searched words value test (next_at words 0 value)
   first = search-first words value test (λ j ne. says j ∙ ne_eqb (get_or words j NONE) value ne)
 
-  pub lowest-there : next_at words 0 value < slots_of words → lowest test (slots_of words) ≡ some (next_at words 0 value)
+  pub lowest-there : next_at words 0 value < slots_of words → lowest test (slots_of words) ≡ Some (next_at words 0 value)
   lowest-there l =
       let i = next_at words 0 value in
       lowest-at test i (slots_of words) first.1.0 (says i ∙ eq-eqb (get_or words i NONE) value (first.1.1 l)) l
 
-  pub lowest-nowhere : slots_of words ≤ next_at words 0 value → lowest test (slots_of words) ≡ none
+  pub lowest-nowhere : slots_of words ≤ next_at words 0 value → lowest test (slots_of words) ≡ None
   lowest-nowhere l = lowest-fewer test (slots_of words) (next_at words 0 value) l first.1.0

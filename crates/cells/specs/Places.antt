@@ -1,6 +1,5 @@
 -- Where a value is next.
-use Rattle.std.specs.Prelude.{Bool, not, ◌&&◌, List, ℕ, eqb, ltb, get_or}
-use Rattle.std.proofs.Math.Option.{none, some}
+use Rattle.std.specs.Prelude.{Bool, not, ◌&&◌, List, ℕ, eqb, ltb, get_or, None, Some}
 use Rattle.rules.specs.Common.{lowest}
 use Rattle.rules.specs.Records.{NONE, slots_of}
 
@@ -10,4 +9,4 @@ holds_from words from value k = not (ltb k from) && eqb (get_or words k NONE) va
 
 -- the lowest of these slots, else the number of slots
 unfoldable pub next_at : (words : List ℕ) (from value : ℕ) → ℕ
-next_at words from value = elim (lowest (holds_from words from value) (slots_of words)) [ none ↦ slots_of words | some k ↦ k ]
+next_at words from value = elim (lowest (holds_from words from value) (slots_of words)) [ None ↦ slots_of words | Some k ↦ k ]

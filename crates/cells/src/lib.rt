@@ -2,92 +2,65 @@
 // Hashes by value: read, written, and compared from the first byte on.
 #![tactic(auto)]
 
-ghost use Rattle.std.specs.Prelude.{◌≡◌, ◌≢◌, true, ℕ, ◌+◌, ◌<◌, ◌≤◌, min, get_or, set};
+ghost use Rattle.std.specs.Prelude.{◌≡◌, ◌≢◌, true, ℕ, ◌+◌, ◌<◌, ◌≤◌, get_or, set};
 ghost use Rattle.cells.specs.Places.{next_at};
 ghost use Rattle.rules.specs.Hashes.{hash_at, first_byte, put_hash, same_hash, hash_less};
 ghost use Rattle.rules.specs.Records.{NONE, slots_of};
 
-// In a word that names no slot and in the sequence of an empty one; a cell does not know which it holds.
-const NONE_REF: u32 = 4294967295;
+// A number that a field has a cell of for each slot.
+pub trait Cell: Copy {
+    ghost EMPTY: { Self };
+
+    // What an empty record has there: zero, but for a word, which may be a reference or a sequence.
+    const EMPTY: Self;
+}
+
+impl Cell for u8 {
+    ghost EMPTY = { 0 };
+
+    const EMPTY: u8 = 0;
+}
+
+impl Cell for u32 {
+    ghost EMPTY = { 4294967295 };
+
+    const EMPTY: u32 = u32::MAX;
+}
+
+impl Cell for u64 {
+    ghost EMPTY = { 0 };
+
+    const EMPTY: u64 = 0;
+}
 
 // How many slots a field of this length has: no more than a reference can name.
+#[tactic(auto, unfolding(rules::specs::Records::slots_of))]
 pub fn slots(words: &[u32]) -> u32
     ensures { result ≡ slots_of words.now }
 {
-    let len = words.len();
-    if len < 4294967295 {
-        return len as u32;
-    }
-    NONE_REF
+    words.len().min(u32::MAX as usize) as u32
 }
 
-// The lesser of two lengths.
-pub fn least(a: usize, b: usize) -> usize
-    ensures { result ≡ min a b }
+// The cell in a place; past the end that of an empty record.
+pub fn cell_at<C: Cell>(cells: &[C], at: u32) -> C
+    ensures { result ≡ get_or cells.now at C.EMPTY }
 {
-    if a < b { a } else { b }
+    cell_from(cells, at as usize)
 }
 
-// The word in a place; NONE_REF past the end.
-pub fn word_at(words: &[u32], at: u32) -> u32
-    ensures { result ≡ get_or words.now at NONE }
+fn cell_from<C: Cell>(cells: &[C], k: usize) -> C
+    ensures { result ≡ get_or cells.now k C.EMPTY }
 {
-    let slot = at as usize;
-    if slot < words.len() {
-        words[slot]
-    } else {
-        NONE_REF
-    }
+    if k < cells.len() { cells[k] } else { C::EMPTY }
 }
 
-// Sets the word in a place; past the end nothing changes.
-pub fn put_word(words: &mut [u32], at: u32, value: u32)
-    ensures { words.new ≡ set words.old at value }
+// Sets the cell in a place; past the end nothing changes.
+pub fn put_cell<C: Cell>(cells: &mut [C], at: u32, value: C)
+    ensures { cells.new ≡ set cells.old at value }
 {
     let k = at as usize;
-    if k < words.len() {
-        words[k] = value;
-    }
-}
-
-// The byte in a place; 0 past the end.
-pub fn byte_at(bytes: &[u8], at: u32) -> u8
-    ensures { result ≡ get_or bytes.now at 0 }
-{
-    byte_from(bytes, at as usize)
-}
-
-fn byte_from(bytes: &[u8], k: usize) -> u8
-    ensures { result ≡ get_or bytes.now k 0 }
-{
-    if k < bytes.len() { bytes[k] } else { 0 }
-}
-
-// Sets the byte in a place; past the end nothing changes.
-pub fn put_byte(bytes: &mut [u8], at: u32, value: u8)
-    ensures { bytes.new ≡ set bytes.old at value }
-{
-    let k = at as usize;
-    if k < bytes.len() {
-        bytes[k] = value;
-    }
-}
-
-// The time in a place; 0 past the end.
-pub fn time_at(times: &[u64], at: u32) -> u64
-    ensures { result ≡ get_or times.now at 0 }
-{
-    let k = at as usize;
-    if k < times.len() { times[k] } else { 0 }
-}
-
-// Sets the time in a place; past the end nothing changes.
-pub fn put_time(times: &mut [u64], at: u32, value: u64)
-    ensures { times.new ≡ set times.old at value }
-{
-    let k = at as usize;
-    if k < times.len() {
-        times[k] = value;
+    if k < cells.len() {
+        cells[k] = value;
     }
 }
 
@@ -96,20 +69,21 @@ pub fn next_at(words: &[u32], from: u32, value: u32) -> u32
     ensures { result ≡ next_at words.now from value }
 {
     let n = slots(words);
-    let mut k = from;
-    while eight_differ(words, k, value) {
-        k += 8;
+    let mut first = from;
+    // By eights, as far as that goes: one by one is slower.
+    while eight_differ(words, first, value) {
+        first += 8;
     }
-    while k < n {
-        if word_at(words, k) == value {
+    for k in first..n {
+        if cell_at(words, k) == value {
             return k;
         }
-        k += 1;
     }
     n
 }
 
 // Eight slots at once: none holds the value.
+#[tactic(auto, using(crate::proofs::Places::read_there), unfolding(rules::specs::Records::slots_of))]
 fn eight_differ(words: &[u32], from: u32, value: u32) -> bool
     ensures { result ≡ true → (from + 8 ≤ slots_of words.now)
         × ((j : ℕ) → j < 8 → get_or words.now (from + j) NONE ≢ value) }
@@ -119,17 +93,16 @@ fn eight_differ(words: &[u32], from: u32, value: u32) -> bool
         return false;
     }
     let mut differ = true;
-    let mut j = 0;
-    while j < 8 {
+    for j in 0..8 {
         if words[first + j] == value {
             differ = false;
         }
-        j += 1;
     }
     differ
 }
 
 // The hash in a place of a buffer of hashes.
+#[tactic(auto, using(crate::proofs::Whole::read_whole))]
 pub fn hash_at(bytes: &[u8], at: u32) -> [u8; 32]
     ensures { result ≡ hash_at bytes.now at }
 {
@@ -138,11 +111,7 @@ pub fn hash_at(bytes: &[u8], at: u32) -> [u8; 32]
         return padded_hash(&bytes[..bytes.len()], at);
     }
     let mut hash = [0u8; 32];
-    let mut k = 0;
-    while k < 32 {
-        hash[k] = bytes[from + k];
-        k += 1;
-    }
+    hash.copy_from_slice(&bytes[from..from + 32]);
     hash
 }
 
@@ -153,57 +122,44 @@ fn padded_hash(bytes: &[u8], at: u32) -> [u8; 32]
 {
     let from = at as usize * 32;
     let mut hash = [0u8; 32];
-    let mut k = 0;
-    while k < 32 {
-        hash[k] = byte_from(bytes, from + k);
-        k += 1;
+    for k in 0..32 {
+        hash[k] = cell_from(bytes, from + k);
     }
     hash
 }
 
 // The first byte of the hash in a place; 0 past the end.
+#[tactic(auto, using(rules::proofs::Hashes::first_byte))]
 pub fn first_byte(bytes: &[u8], at: u32) -> u8
     ensures { result ≡ first_byte (hash_at bytes.now at) }
 {
-    byte_from(bytes, at as usize * 32)
+    cell_from(bytes, at as usize * 32)
 }
 
 // Sets the hash in a place of a buffer of hashes; bytes past the end are dropped.
+#[tactic(auto, using(crate::proofs::Whole::put_whole, crate::proofs::Whole::put_cut, crate::proofs::Whole::put_past))]
 pub fn put_hash(bytes: &mut [u8], at: u32, hash: [u8; 32])
     ensures { bytes.new ≡ put_hash bytes.old at hash }
 {
     let from = at as usize * 32;
     if from + 32 <= bytes.len() {
-        let mut k = 0;
-        while k < 32 {
-            bytes[from + k] = hash[k];
-            k += 1;
-        }
-    } else {
-        let mut k = from;
-        while k < bytes.len() {
-            bytes[k] = hash[k - from];
-            k += 1;
-        }
+        bytes[from..from + 32].copy_from_slice(&hash);
+    } else if from < bytes.len() {
+        let room = bytes.len() - from;
+        bytes[from..].copy_from_slice(&hash[..room]);
     }
 }
 
 // Whether two hashes are the same in all 32 bytes.
+#[tactic(auto, using(crate::proofs::Compare::same_is))]
 pub fn same_hash(a: [u8; 32], b: [u8; 32]) -> bool
     ensures { result ≡ same_hash a b }
 {
-    let mut same = true;
-    let mut k = 0;
-    while k < 32 {
-        if a[k] != b[k] {
-            same = false;
-        }
-        k += 1;
-    }
-    same
+    a == b
 }
 
 // Whether the hash in a place is this one; bytes past the end read as 0.
+#[tactic(auto, using(crate::proofs::Whole::read_whole, crate::proofs::Compare::same_is))]
 pub fn same_hash_at(bytes: &[u8], at: u32, hash: [u8; 32]) -> bool
     ensures { result ≡ same_hash (hash_at bytes.now at) hash }
 {
@@ -211,30 +167,13 @@ pub fn same_hash_at(bytes: &[u8], at: u32, hash: [u8; 32]) -> bool
     if from + 32 > bytes.len() {
         return same_hash(padded_hash(&bytes[..bytes.len()], at), hash);
     }
-    let mut same = true;
-    let mut k = 0;
-    while k < 32 {
-        if bytes[from + k] != hash[k] {
-            same = false;
-        }
-        k += 1;
-    }
-    same
+    &bytes[from..from + 32] == hash.as_slice()
 }
 
 // Whether the first hash is the lower: the first byte that differs decides, and of equal hashes neither is.
+#[tactic(auto, using(crate::proofs::Compare::less_is))]
 pub fn hash_less(a: [u8; 32], b: [u8; 32]) -> bool
     ensures { result ≡ hash_less a b }
 {
-    let mut k = 0;
-    while k < 32 {
-        if a[k] < b[k] {
-            return true;
-        }
-        if b[k] < a[k] {
-            return false;
-        }
-        k += 1;
-    }
-    false
+    a < b
 }

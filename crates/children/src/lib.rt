@@ -5,31 +5,23 @@ ghost use Rattle.std.specs.Prelude.{◌≡◌, not};
 ghost use Rattle.rules.specs.BlockTable.{child_of, childless};
 
 use blocks::is_occupied;
-use cells::{slots, word_at};
+use cells::{cell_at, slots};
 use rules::BlockSlot;
 
+#[tactic(auto, unfolding(rules::specs::BlockTable::child_of))]
 fn is_child(parents: &[u32], sequences: &[u32], slot: BlockSlot, child: BlockSlot) -> bool
     ensures { result ≡ child_of parents.now sequences.now slot.0 child.0 }
 {
-    if !is_occupied(sequences, child) {
-        return false;
-    }
-    word_at(parents, child.0) == slot.0
+    is_occupied(sequences, child) && BlockSlot(cell_at(parents, child.0)) == slot
 }
 
 // Whether an occupied block has this slot as its parent, be the slot itself occupied or not.
 pub fn has_child(parents: &[u32], sequences: &[u32], slot: BlockSlot) -> bool
     ensures { result ≡ not (childless parents.now sequences.now slot.0) }
 {
-    let n = slots(sequences);
-    let mut i: u32 = 0;
-    while i < n {
-        if is_child(parents, sequences, slot, BlockSlot(i)) {
-            return true;
-        }
-        i += 1;
-    }
-    false
+    (0..slots(sequences))
+        .map(BlockSlot)
+        .any(|child| is_child(parents, sequences, slot, child))
 }
 
 // Whether no occupied block has this slot as its parent; the slot itself may be empty.

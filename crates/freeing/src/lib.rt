@@ -20,16 +20,7 @@ pub fn free_all(
     ensures { blocks_of hashes.new parents.new sequences.new counts.new flags.new
         ≡ free_all deleted.now (blocks_of hashes.old parents.old sequences.old counts.old flags.old) }
 {
-    let mut k: usize = 0;
-    while k < deleted.len() {
-        delete(
-            hashes,
-            parents,
-            sequences,
-            counts,
-            flags,
-            BlockSlot(deleted[k]),
-        );
-        k += 1;
+    for slot in deleted {
+        delete(hashes, parents, sequences, counts, flags, BlockSlot(*slot));
     }
 }

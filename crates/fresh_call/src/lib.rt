@@ -3,11 +3,11 @@
 
 ghost use Rattle.std.specs.Prelude.{◌≡◌};
 ghost use Rattle.rules.specs.Records.{tables_of};
-ghost use Rattle.rules.specs.Answers.{outcome_said};
+ghost use Rattle.rules.specs.Answers.{outcome_said, recorded};
 ghost use Rattle.rules.specs.Calls.{state_of, fresh as fresh_rule, Sets};
 
 use empties::{empty_blocks, empty_heads};
-use rules::{BlockSlot, Outcome, Recorded, Refusal};
+use rules::{BlockSlot, Refusal};
 use shape::is_shaped;
 
 // Empties all slots and all heads and gives NONE_REF for the record; a refusal changes nothing.
@@ -24,8 +24,8 @@ pub fn fresh(
     arrivals: &mut [u64],
     connected: &mut [u8],
     active: BlockSlot,
-) -> Recorded
-    ensures { Sets (outcome_said result.outcome) result.active.0
+) -> Result<BlockSlot, Refusal>
+    ensures { Sets (outcome_said result) (recorded result active.0)
         (tables_of hashes.new parents.new sequences.new counts.new flags.new
         tips.new tails.new missing.new requested.new arrivals.new connected.new)
         (fresh_rule
@@ -36,15 +36,9 @@ pub fn fresh(
         hashes, parents, sequences, counts, flags, tips, tails, missing, requested, arrivals,
         connected,
     ) {
-        return Recorded {
-            outcome: Outcome::Refused(Refusal::Shape),
-            active,
-        };
+        return Err(Refusal::Shape);
     }
     empty_blocks(hashes, parents, sequences, counts, flags);
     empty_heads(tips, tails, missing, requested, arrivals, connected);
-    Recorded {
-        outcome: Outcome::Done,
-        active: BlockSlot::NONE_REF,
-    }
+    Ok(BlockSlot::NONE_REF)
 }

@@ -6,48 +6,49 @@ ghost use Rattle.std.specs.Prelude.{◌≡◌};
 ghost use Rattle.rules.specs.Caches.{next_head, connected_head_at, stored_head_tail, set_missing};
 ghost use Rattle.rules.specs.Answers.{slot_found, head_in_use};
 
-use cells::{put_hash, slots, word_at};
+use cells::{cell_at, put_hash, slots};
 use heads::{is_connected, is_stored, is_used};
-use rules::{BlockSlot, Found, HeadSlot, NextHead};
+use rules::{BlockSlot, HeadSlot, UsedHead};
 
 // The lowest head in use from this slot on, with its tip and its anchor, or none.
-pub fn next_occupied_head(tips: &[u32], tails: &[u32], from: HeadSlot) -> NextHead
+pub fn next_occupied_head(tips: &[u32], tails: &[u32], from: HeadSlot) -> Option<UsedHead>
     ensures { head_in_use result ≡ next_head tips.now tails.now from.0 }
 {
-    let m = slots(tips);
-    let mut k = from.0;
-    while k < m {
-        if is_used(tips, HeadSlot(k)) {
-            let tip = BlockSlot(word_at(tips, k));
-            let anchor = BlockSlot(word_at(tails, k));
-            return NextHead::At(HeadSlot(k), tip, anchor);
-        }
-        k += 1;
-    }
-    NextHead::Nothing
+    (from.0..slots(tips))
+        .map(HeadSlot)
+        .find(|head| is_used(tips, *head))
+        .map(|head| UsedHead {
+            head,
+            tip: BlockSlot(cell_at(tips, head.0)),
+            anchor: BlockSlot(cell_at(tails, head.0)),
+        })
 }
 
 // The tip of a connected head; nothing for a stored or an empty one.
-pub fn connected_head_at(tips: &[u32], connected: &[u8], head: HeadSlot) -> Found
+pub fn connected_head_at(tips: &[u32], connected: &[u8], head: HeadSlot) -> Option<BlockSlot>
     ensures { slot_found result ≡ connected_head_at tips.now connected.now head.0 }
 {
-    if !is_used(tips, head) {
-        return Found::Nothing;
+    if is_used(tips, head) && is_connected(connected, head) {
+        Some(BlockSlot(cell_at(tips, head.0)))
+    } else {
+        None
     }
-    if !is_connected(connected, head) {
-        return Found::Nothing;
-    }
-    Found::At(BlockSlot(word_at(tips, head.0)))
 }
 
 // The tail of a stored head; nothing for a connected or an empty one.
-pub fn stored_head_tail(tips: &[u32], tails: &[u32], connected: &[u8], head: HeadSlot) -> Found
+pub fn stored_head_tail(
+    tips: &[u32],
+    tails: &[u32],
+    connected: &[u8],
+    head: HeadSlot,
+) -> Option<BlockSlot>
     ensures { slot_found result ≡ stored_head_tail tips.now tails.now connected.now head.0 }
 {
-    if !is_stored(tips, connected, head) {
-        return Found::Nothing;
+    if is_stored(tips, connected, head) {
+        Some(BlockSlot(cell_at(tails, head.0)))
+    } else {
+        None
     }
-    Found::At(BlockSlot(word_at(tails, head.0)))
 }
 
 // Sets the missing hash of a head in use; an empty head keeps its own.

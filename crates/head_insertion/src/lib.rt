@@ -9,7 +9,7 @@ ghost use Rattle.rules.specs.Admission.{new_head, seat_head, make_room, insert_h
 use caches::recompute_caches;
 use eviction::evict_one;
 use heads::{first_empty, put_head};
-use rules::{BlockSlot, FoundHead, Head, HeadSlot};
+use rules::{BlockSlot, Head, HeadSlot};
 
 // A new head in a slot, its caches worked out.
 fn seat_at(
@@ -52,6 +52,7 @@ fn seat_at(
 }
 
 // In the lowest empty slot, if there is one.
+#[tactic(auto, unfolding(rules::specs::Admission::seat_head))]
 fn seat_head(
     hashes: &[u8],
     parents: &[u32],
@@ -75,16 +76,16 @@ fn seat_head(
         tips.old tails.old missing.old requested.old arrivals.old connected.old) tip.0 arriving.0
         previous.now arrival }
 {
-    match first_empty(tips) {
-        FoundHead::Nothing => {}
-        FoundHead::At(slot) => seat_at(
+    if let Some(slot) = first_empty(tips) {
+        seat_at(
             parents, sequences, flags, tips, tails, missing, requested, arrivals, connected, slot,
             tip, arriving, previous, arrival,
-        ),
+        );
     }
 }
 
 // A full head table evicts.
+#[tactic(auto, unfolding(rules::specs::Admission::make_room))]
 fn make_room(
     hashes: &mut [u8],
     parents: &mut [u32],
@@ -104,17 +105,17 @@ fn make_room(
         ≡ make_room (tables_of hashes.old parents.old sequences.old counts.old flags.old
         tips.old tails.old missing.old requested.old arrivals.old connected.old) active.0 }
 {
-    match first_empty(tips) {
-        FoundHead::Nothing => evict_one(
+    if first_empty(tips).is_none() {
+        evict_one(
             hashes, parents, sequences, counts, flags, tips, tails, missing, requested, arrivals,
             connected, active,
-        ),
-        FoundHead::At(_) => {}
+        );
     }
 }
 
 // A head with this tip, request time 0 and the given arrival time takes the lowest empty slot, and its caches are worked out. A full
 // head table evicts first; without a victim the tip gets no head.
+#[tactic(auto, unfolding(rules::specs::Admission::insert_head))]
 pub fn insert_head(
     hashes: &mut [u8],
     parents: &mut [u32],

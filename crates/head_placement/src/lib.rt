@@ -1,20 +1,20 @@
 // The head of a new block: its parent's, moved up, or one more.
 #![tactic(auto)]
 
-ghost use Rattle.std.specs.Prelude.{◌≡◌};
-ghost use Rattle.std.proofs.Math.Option.{some};
+ghost use Rattle.std.specs.Prelude.{◌≡◌, Some};
 ghost use Rattle.rules.specs.Records.{tables_of};
 ghost use Rattle.rules.specs.Admission.{move_up, fork as fork_rule, place_head};
 ghost use Rattle.rules.specs.Answers.{slot_found};
 
 use block_counts::adjust_head_ref_count;
 use caches::recompute_caches;
-use cells::{put_time, put_word};
+use cells::put_cell;
 use head_insertion::insert_head;
 use heads::slot_of_head;
-use rules::{BlockSlot, Found, FoundHead, HeadSlot};
+use rules::{BlockSlot, HeadSlot};
 
 // The parent's head moves up to the new block.
+#[tactic(auto, unfolding(rules::specs::Admission::move_up))]
 fn move_up(
     hashes: &[u8],
     parents: &[u32],
@@ -38,8 +38,8 @@ fn move_up(
         tips.old tails.old missing.old requested.old arrivals.old connected.old) slot.0 block.0
         previous.now arrival }
 {
-    put_word(tips, slot.0, block.0);
-    put_time(arrivals, slot.0, arrival);
+    put_cell(tips, slot.0, block.0);
+    put_cell(arrivals, slot.0, arrival);
     recompute_caches(
         parents, sequences, flags, tips, tails, missing, requested, connected, slot, block,
         previous,
@@ -47,6 +47,7 @@ fn move_up(
 }
 
 // A parent that is no head counts one more.
+#[tactic(auto, unfolding(rules::specs::Admission::fork, rules::specs::BlockTable::adjust))]
 fn fork(
     hashes: &mut [u8],
     parents: &mut [u32],
@@ -78,6 +79,7 @@ fn fork(
     );
 }
 
+#[tactic(auto, unfolding(rules::specs::Admission::place_head))]
 fn place_above(
     hashes: &mut [u8],
     parents: &mut [u32],
@@ -100,14 +102,14 @@ fn place_above(
         tips.new tails.new missing.new requested.new arrivals.new connected.new
         ≡ place_head (tables_of hashes.old parents.old sequences.old counts.old flags.old
         tips.old tails.old missing.old requested.old arrivals.old connected.old) block.0
-        (some parent.0) previous.now arrival active.0 }
+        (Some parent.0) previous.now arrival active.0 }
 {
     match slot_of_head(tips, parent) {
-        FoundHead::At(slot) => move_up(
+        Some(slot) => move_up(
             hashes, parents, sequences, counts, flags, tips, tails, missing, requested, arrivals,
             connected, slot, block, previous, arrival,
         ),
-        FoundHead::Nothing => fork(
+        None => fork(
             hashes, parents, sequences, counts, flags, tips, tails, missing, requested, arrivals,
             connected, block, parent, previous, arrival, active,
         ),
@@ -116,6 +118,7 @@ fn place_above(
 
 // The parent's head, the lowest of them, moves up to the new block. A parent that is no head counts one more and a head is inserted.
 // Without a parent a head is inserted.
+#[tactic(auto, unfolding(rules::specs::Admission::place_head))]
 pub fn place_head(
     hashes: &mut [u8],
     parents: &mut [u32],
@@ -129,7 +132,7 @@ pub fn place_head(
     arrivals: &mut [u64],
     connected: &mut [u8],
     block: BlockSlot,
-    parent: Found,
+    parent: Option<BlockSlot>,
     previous: &[u8],
     arrival: u64,
     active: BlockSlot,
@@ -141,11 +144,11 @@ pub fn place_head(
         (slot_found parent) previous.now arrival active.0 }
 {
     match parent {
-        Found::Nothing => insert_head(
+        None => insert_head(
             hashes, parents, sequences, counts, flags, tips, tails, missing, requested, arrivals,
             connected, block, block, previous, arrival, active,
         ),
-        Found::At(below) => place_above(
+        Some(below) => place_above(
             hashes, parents, sequences, counts, flags, tips, tails, missing, requested, arrivals,
             connected, block, below, previous, arrival, active,
         ),

@@ -10,91 +10,72 @@ ghost use Rattle.rules.specs.Admission.{first_empty};
 ghost use Rattle.rules.specs.Answers.{head_found};
 ghost use Rattle.rules.specs.Eviction.{hash_before, block_before};
 
-use cells::{
-    byte_at, hash_at, hash_less, next_at, put_byte, put_hash, put_time, put_word, slots, word_at,
-};
-use rules::{BlockSlot, FoundHead, Head, HeadSlot};
+use cells::{cell_at, hash_at, hash_less, next_at, put_cell, put_hash, slots};
+use rules::{BlockSlot, Head, HeadSlot, Sequence};
 
 // Whether the head is in use: its tip is not NONE_REF. A head out of range is empty.
 pub fn is_used(tips: &[u32], head: HeadSlot) -> bool
     ensures { result ≡ used tips.now head.0 }
 {
-    word_at(tips, head.0) != BlockSlot::NONE_REF.0
+    cell_at(tips, head.0) != BlockSlot::NONE_REF.0
 }
 
 // Whether the connected flag, bit 0 of its byte, is set, be the head in use or not; out of range it is not.
 pub fn is_connected(connected: &[u8], head: HeadSlot) -> bool
     ensures { result ≡ is_connected connected.now head.0 }
 {
-    byte_at(connected, head.0) % 2 == 1
+    cell_at(connected, head.0) % 2 == 1
 }
 
 // Whether the head is in use and not connected.
 pub fn is_stored(tips: &[u32], connected: &[u8], head: HeadSlot) -> bool
     ensures { result ≡ stored tips.now connected.now head.0 }
 {
-    if !is_used(tips, head) {
-        return false;
-    }
-    !is_connected(connected, head)
+    is_used(tips, head) && !is_connected(connected, head)
 }
 
 // The lowest head slot with this tip; none for NONE_REF, which is no tip.
-pub fn slot_of_head(tips: &[u32], tip: BlockSlot) -> FoundHead
+pub fn slot_of_head(tips: &[u32], tip: BlockSlot) -> Option<HeadSlot>
     ensures { head_found result ≡ slot_of_head tips.now tip.0 }
 {
-    if tip.0 == BlockSlot::NONE_REF.0 {
-        return FoundHead::Nothing;
+    if tip == BlockSlot::NONE_REF {
+        return None;
     }
     head_with(tips, tip)
 }
 
 // The lowest empty head slot, or none where all are in use.
-pub fn first_empty(tips: &[u32]) -> FoundHead
+pub fn first_empty(tips: &[u32]) -> Option<HeadSlot>
     ensures { head_found result ≡ first_empty tips.now }
 {
     head_with(tips, BlockSlot::NONE_REF)
 }
 
-fn head_with(tips: &[u32], tip: BlockSlot) -> FoundHead
+fn head_with(tips: &[u32], tip: BlockSlot) -> Option<HeadSlot>
     ensures { head_found result ≡ lowest (λ (k : ℕ). eqb (tip_at tips.now k) tip.0) (slots_of tips.now) }
 {
     let k = next_at(tips, 0, tip.0);
     if k < slots(tips) {
-        return FoundHead::At(HeadSlot(k));
+        Some(HeadSlot(k))
+    } else {
+        None
     }
-    FoundHead::Nothing
 }
 
 // How many heads are in use.
 pub fn count(tips: &[u32]) -> u32
     ensures { result ≡ head_count tips.now }
 {
-    let m = slots(tips);
-    let mut heads: u32 = 0;
-    let mut k: u32 = 0;
-    while k < m {
-        if is_used(tips, HeadSlot(k)) {
-            heads += 1;
-        }
-        k += 1;
-    }
-    heads
+    (0..slots(tips))
+        .filter(|k| is_used(tips, HeadSlot(*k)))
+        .count() as u32
 }
 
 // Whether some head is stored.
 pub fn has_stored_head(tips: &[u32], connected: &[u8]) -> bool
     ensures { result ≡ has_stored_head tips.now connected.now }
 {
-    let m = slots(tips);
-    let mut k: u32 = 0;
-    while k < m {
-        if is_stored(tips, connected, HeadSlot(k)) {
-            return true;
-        }
-        k += 1;
-    }
-    false
+    (0..slots(tips)).any(|k| is_stored(tips, connected, HeadSlot(k)))
 }
 
 // Writes the head into the slot, be it in use or empty; what falls past the end of a buffer is dropped.
@@ -113,12 +94,12 @@ pub fn put_head(
         tips.old tails.old missing.old requested.old arrivals.old connected.old) slot.0 head }
 {
     let hash = head.missing;
-    put_word(tips, slot.0, head.tip.0);
-    put_word(tails, slot.0, head.tail.0);
+    put_cell(tips, slot.0, head.tip.0);
+    put_cell(tails, slot.0, head.tail.0);
     put_hash(missing, slot.0, hash);
-    put_time(requested, slot.0, head.requested);
-    put_time(arrivals, slot.0, head.arrival);
-    put_byte(connected, slot.0, head.connected);
+    put_cell(requested, slot.0, head.requested);
+    put_cell(arrivals, slot.0, head.arrival);
+    put_cell(connected, slot.0, head.connected);
 }
 
 // Whether the first block has the lower hash; the first byte that differs decides.
@@ -132,13 +113,7 @@ pub fn hash_before(hashes: &[u8], a: BlockSlot, b: BlockSlot) -> bool
 pub fn block_before(hashes: &[u8], sequences: &[u32], a: BlockSlot, b: BlockSlot) -> bool
     ensures { result ≡ block_before hashes.now sequences.now a.0 b.0 }
 {
-    let first = word_at(sequences, a.0);
-    let second = word_at(sequences, b.0);
-    if first < second {
-        return true;
-    }
-    if first != second {
-        return false;
-    }
-    hash_before(hashes, a, b)
+    let first = Sequence(cell_at(sequences, a.0));
+    let second = Sequence(cell_at(sequences, b.0));
+    first < second || first == second && hash_before(hashes, a, b)
 }

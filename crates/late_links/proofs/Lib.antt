@@ -1,2 +1,1 @@
 pub mod Missed
-mod Late

@@ -1,18 +1,17 @@
 // Late tails: blocks that waited for the new one are linked to it.
 #![tactic(auto)]
 
-ghost use Rattle.std.specs.Prelude.{◌≡◌, suc, eqb, pos};
+ghost use Rattle.std.specs.Prelude.{◌≡◌, suc, eqb};
 ghost use Rattle.rules.specs.Hashes.{hash_at};
 ghost use Rattle.rules.specs.Records.{tables_of};
-ghost use Rattle.rules.specs.BlockTable.{adjust_counts};
 ghost use Rattle.rules.specs.Admission.{misses as misses_rule, late, joined as joined_rule, link as link_rule, link_late, link_tails};
 
 use block_changes::resolve_parent_ref;
 use block_counts::adjust_head_ref_count;
 use blocks::is_occupied;
-use cells::{first_byte, hash_at, same_hash_at, slots, word_at};
+use cells::{cell_at, first_byte, hash_at, same_hash_at, slots};
 use heads::{is_stored, put_head, slot_of_head};
-use rules::{BlockSlot, FoundHead, Head, HeadSlot, Sequence};
+use rules::{BlockSlot, Head, HeadSlot, Sequence};
 
 // Whether the head is stored and misses this hash; the first byte alone rules most heads out.
 pub fn misses(
@@ -24,13 +23,9 @@ pub fn misses(
 ) -> bool
     ensures { result ≡ misses_rule tips.now missing.now connected.now hash head.0 }
 {
-    if first_byte(missing, head.0) != hash[0] {
-        return false;
-    }
-    if !is_stored(tips, connected, head) {
-        return false;
-    }
-    same_hash_at(missing, head.0, hash)
+    first_byte(missing, head.0) == hash[0]
+        && is_stored(tips, connected, head)
+        && same_hash_at(missing, head.0, hash)
 }
 
 fn is_late(
@@ -51,26 +46,17 @@ fn is_late(
     if !misses(tips, missing, connected, hash, head) {
         return false;
     }
-    let tail = word_at(tails, head.0);
-    if tail == block.0 {
-        return false;
-    }
-    if !is_occupied(sequences, BlockSlot(tail)) {
-        return false;
-    }
-    if word_at(parents, tail) != BlockSlot::NONE_REF.0 {
-        return false;
-    }
-    comes_after(Sequence(word_at(sequences, tail)), sequence)
+    let tail = BlockSlot(cell_at(tails, head.0));
+    tail != block
+        && is_occupied(sequences, tail)
+        && BlockSlot(cell_at(parents, tail.0)) == BlockSlot::NONE_REF
+        && comes_after(Sequence(cell_at(sequences, tail.0)), sequence)
 }
 
 fn comes_after(higher: Sequence, lower: Sequence) -> bool
     ensures { result ≡ eqb higher.0 (suc lower.0) }
 {
-    if higher.0 == 0 {
-        return false;
-    }
-    higher.0 - 1 == lower.0
+    higher.0.checked_sub(1) == Some(lower.0)
 }
 
 // The new block's own head is emptied if it has one, else it counts one more.
@@ -94,7 +80,7 @@ fn join(
         tips.old tails.old missing.old requested.old arrivals.old connected.old) block.0 }
 {
     match slot_of_head(tips, block) {
-        FoundHead::At(own) => put_head(
+        Some(own) => put_head(
             tips,
             tails,
             missing,
@@ -104,14 +90,10 @@ fn join(
             own,
             Head::empty(),
         ),
-        FoundHead::Nothing => count_linked(sequences, counts, block),
+        None => {
+            adjust_head_ref_count(sequences, counts, block, 1);
+        }
     }
-}
-
-fn count_linked(sequences: &[u32], counts: &mut [u8], block: BlockSlot)
-    ensures { counts.new ≡ adjust_counts sequences.now counts.old block.0 (pos 1) }
-{
-    adjust_head_ref_count(sequences, counts, block, 1);
 }
 
 fn link(
@@ -134,7 +116,7 @@ fn link(
         ≡ link_rule (tables_of hashes.now parents.old sequences.now counts.old flags.now
         tips.old tails.old missing.old requested.old arrivals.old connected.old) block.0 head.0 }
 {
-    let tail = BlockSlot(word_at(tails, head.0));
+    let tail = BlockSlot(cell_at(tails, head.0));
     resolve_parent_ref(parents, tail, block);
     join(
         hashes, parents, sequences, counts, flags, tips, tails, missing, requested, arrivals,
@@ -199,9 +181,7 @@ pub fn link_tails(
         sequence.0 (hash_at hashes.now block.0) }
 {
     let hash = hash_at(hashes, block.0);
-    let m = slots(tips);
-    let mut k: u32 = 0;
-    while k < m {
+    for k in 0..slots(tips) {
         link_late(
             hashes,
             parents,
@@ -219,6 +199,5 @@ pub fn link_tails(
             hash,
             HeadSlot(k),
         );
-        k += 1;
     }
 }

@@ -1,16 +1,9 @@
--- What a buffer has of a place of hashes; the missing hash is that of one buffer or the other; a hash put where it stands already
--- changes nothing.
-use mathlib.Core.Path.{◌≡◌, refl, sym, ap, ◌∙◌}
-use mathlib.Core.Logic.{◌≢◌}
-use mathlib.Core.List.{List}
-use Prim.Native.Nat.{ℕ, zero, suc, ◌+◌, ◌-◌, ◌*◌, min}
+-- What a buffer has of a place of hashes, also read as a hash; a hash put where it stands already changes nothing.
+use Rattle.std.proofs.Common.{◌≡◌, refl, sym, ap, ◌∙◌, ℕ, zero, suc, ◌+◌, ◌-◌, ◌*◌, min, arith, List, length, get_or, take, drop}
 use native.Mathlib.Nat.{zero-add}
-use native.Mathlib.Omega.{arith}
-use borrow.Author.Tests.{eq-eqb, ne_eqb}
-use lib.ListN.{length, get_or, take, drop, length-drop, drop_of_length-le}
+use lib.ListN.{length-drop, drop_of_length-le}
 use lib.Seq.{sets, take_all, get_or-take, get_or-drop, set-get_or}
 use Rattle.rules.specs.Hashes.{hash_length, bytes_from, hash_at, put_hash}
-use Rattle.rules.specs.Caches.{missing_part}
 use Rattle.rules.proofs.Hashes.{bytes-length, bytes-at, hash-is}
 use Rattle.rules.proofs.Splits.{less?}
 
@@ -26,7 +19,7 @@ module _ (l : List ℕ) (from size start end : ℕ) (s : start ≡ min from (len
       (λ past. take_all (end - start) (drop start l) (rw length-drop (omega arith)) ∙ start-held ∙ sym (take_all size (drop from l) (rw length-drop (omega arith))))
       (λ within. let whole : end - start ≡ size = omega arith in rw (start-held, whole))
 
-part-hash : (bytes : List ℕ) (k : ℕ) → hash_at (take hash_length (drop (k * hash_length) bytes)) 0 ≡ hash_at bytes k
+pub part-hash : (bytes : List ℕ) (k : ℕ) → hash_at (take hash_length (drop (k * hash_length) bytes)) 0 ≡ hash_at bytes k
 unfolding hash_at
 part-hash bytes k =
     let part = take hash_length (drop (k * hash_length) bytes) in
@@ -34,20 +27,11 @@ part-hash bytes k =
     (λ j l. bytes-at part 0 hash_length j l ∙ ap (λ (i : ℕ). get_or part i 0) (zero-add j)
     ∙ get_or-take hash_length (drop (k * hash_length) bytes) j 0 l ∙ get_or-drop (k * hash_length) bytes j 0)
 
-module _ (previous missing : List ℕ) (tail arriving k : ℕ) where
-  -- which head knows does not matter then
-  pub part-arriving : (j : ℕ) → tail ≡ arriving → missing_part previous missing tail arriving j ≡ missing_part previous missing tail arriving k
-  unfolding missing_part
-  part-arriving j e = rw (eq-eqb tail arriving e)
-
-  pub missing-known : tail ≢ arriving → hash_at (missing_part previous missing tail arriving k) 0 ≡ hash_at missing k
-  unfolding missing_part
-  missing-known ne = rw (ne_eqb tail arriving ne) (part-hash missing k)
-
 bytes-put-back : (bytes : List ℕ) (from k : ℕ) → sets bytes from (bytes_from bytes from k) ≡ bytes
 unfolding bytes_from
 bytes-put-back bytes from zero = refl
-bytes-put-back bytes from (suc k) = ap (λ (l : List ℕ). sets l (suc from) (bytes_from bytes (suc from) k)) (set-get_or bytes from 0) ∙ bytes-put-back bytes (suc from) k
+bytes-put-back bytes from (suc k) =
+    ap (λ (l : List ℕ). sets l (suc from) (bytes_from bytes (suc from) k)) (set-get_or bytes from 0) ∙ bytes-put-back bytes (suc from) k
 
 pub hash-put-back : (bytes : List ℕ) (k : ℕ) → put_hash bytes k (hash_at bytes k) ≡ bytes
 unfolding hash_at put_hash

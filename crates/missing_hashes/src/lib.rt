@@ -5,17 +5,14 @@ ghost use Rattle.std.specs.Prelude.{◌≡◌, ◌*◌, take, drop};
 ghost use Rattle.rules.specs.Hashes.{hash_length};
 ghost use Rattle.rules.specs.Caches.{waits_at, knowing as knowing_rule, missing_part, missing_kept};
 
-use cells::{hash_at, least, next_at, put_hash, slots, word_at};
+use cells::{cell_at, hash_at, next_at, put_hash, slots};
 use heads::is_stored;
 use rules::{BlockSlot, HeadSlot};
 
 fn waits_at(tips: &[u32], tails: &[u32], connected: &[u8], tail: BlockSlot, head: HeadSlot) -> bool
     ensures { result ≡ waits_at tips.now tails.now connected.now tail.0 head.0 }
 {
-    if word_at(tails, head.0) != tail.0 {
-        return false;
-    }
-    is_stored(tips, connected, head)
+    cell_at(tails, head.0) == tail.0 && is_stored(tips, connected, head)
 }
 
 // The lowest stored head with this cached tail, else the head itself.
@@ -33,6 +30,7 @@ fn knowing(
         return knowing_by_head(tips, tails, connected, tail, head);
     }
     let mut k = next_at(tails, 0, tail.0);
+    // From one head with this tail to the next; a chain over all heads would not skip the others.
     while k < m {
         if is_stored(tips, connected, HeadSlot(k)) {
             return HeadSlot(k);
@@ -52,25 +50,19 @@ fn knowing_by_head(
 ) -> HeadSlot
     ensures { result.0 ≡ knowing_rule tips.now tails.now connected.now tail.0 head.0 }
 {
-    let m = slots(tips);
-    let mut k: u32 = 0;
-    while k < m {
-        if waits_at(tips, tails, connected, tail, HeadSlot(k)) {
-            return HeadSlot(k);
-        }
-        k += 1;
-    }
-    head
+    (0..slots(tips))
+        .map(HeadSlot)
+        .find(|other| waits_at(tips, tails, connected, tail, *other))
+        .unwrap_or(head)
 }
 
 // What a buffer has of the 32 bytes in a place of hashes.
-fn hash_part<'a>(bytes: &'a [u8], at: u32) -> &'a [u8]
+fn hash_part(bytes: &[u8], at: u32) -> &[u8]
     ensures { result.now ≡ take hash_length (drop (at * hash_length) bytes.now) }
 {
     let from = at as usize * 32;
-    let start = least(from, bytes.len());
-    let end = least(from + 32, bytes.len());
-    &bytes[start..end]
+    let rest = &bytes[from.min(bytes.len())..];
+    &rest[..rest.len().min(32)]
 }
 
 // A part of the arriving block's previous hash where the tail is that block, else of what the heads know.
@@ -83,7 +75,7 @@ pub fn missing_part<'a>(
 ) -> &'a [u8]
     ensures { result.now ≡ missing_part previous.now missing.now tail.0 arriving.0 known.0 }
 {
-    if tail.0 == arriving.0 {
+    if tail == arriving {
         return hash_part(previous, 0);
     }
     hash_part(missing, known.0)
@@ -105,9 +97,9 @@ pub fn keep_missing_hash(
         arriving.0 previous.now }
 {
     let mut known = head;
-    if tail.0 != arriving.0 {
+    if tail != arriving {
         known = knowing(tips, tails, connected, tail, head);
-        if known.0 == head.0 {
+        if known == head {
             return;
         }
     }

@@ -8,7 +8,7 @@ ghost use Rattle.rules.specs.Admission.{recompute_missed, recompute_missing, res
 
 use blocks::is_occupied;
 use caches::recompute_caches;
-use cells::{hash_at, slots, word_at};
+use cells::{cell_at, hash_at, slots};
 use late_links::{link_tails, misses};
 use rules::{BlockSlot, HeadSlot, Sequence};
 
@@ -64,9 +64,7 @@ fn recompute_missing(
         (hash_at hashes.now block.0) previous.now }
 {
     let hash = hash_at(hashes, block.0);
-    let m = slots(tips);
-    let mut k: u32 = 0;
-    while k < m {
+    for k in 0..slots(tips) {
         recompute_missed(
             hashes,
             parents,
@@ -84,7 +82,6 @@ fn recompute_missing(
             previous,
             HeadSlot(k),
         );
-        k += 1;
     }
 }
 
@@ -111,7 +108,7 @@ pub fn resolve_pending_tails(
         previous.now }
 {
     if is_occupied(sequences, block) {
-        let sequence = Sequence(word_at(sequences, block.0));
+        let sequence = Sequence(cell_at(sequences, block.0));
         link_tails(
             hashes, parents, sequences, counts, flags, tips, tails, missing, requested, arrivals,
             connected, block, sequence,

@@ -4,7 +4,7 @@ ghost use Rattle.query_numbers.specs.Numbers.{or_none};
 ghost use Rattle.rules.specs.Records.{tables_of};
 ghost use Rattle.rules.specs.Eviction.{victim, evict_one};
 
-use query_numbers::found_head;
+use query_numbers::number_or_none;
 use rules::BlockSlot;
 
 // The head slot of the victim; NONE_REF is none.
@@ -17,7 +17,7 @@ pub extern "C" fn probe_select_eviction_victim(
 ) -> u32
     ensures { result ≡ or_none (victim hashes.now sequences.now tips.now active) }
 {
-    found_head(eviction::select_eviction_victim(hashes, sequences, tips, BlockSlot(active)))
+    number_or_none(eviction::select_eviction_victim(hashes, sequences, tips, BlockSlot(active)))
 }
 
 // Empties the victim, whose walk lowers counts and frees blocks; without a victim nothing changes.

@@ -8,16 +8,16 @@ ghost use Rattle.rules.specs.Caches.{recompute, refresh_head, recompute_all, nex
 ghost use Rattle.rules.specs.Admission.{first_empty};
 
 use crate::numbers::any_slot;
-use cells::put_word;
-use query_numbers::found_head;
-use rules::{BlockSlot, HeadSlot, NextHead};
+use cells::put_cell;
+use query_numbers::number_or_none;
+use rules::{BlockSlot, HeadSlot};
 
 // The lowest empty head slot; NONE_REF is none.
 #[unsafe(no_mangle)]
 pub extern "C" fn probe_first_empty(tips: &[u32]) -> u32
     ensures { result ≡ or_none (first_empty tips.now) }
 {
-    found_head(heads::first_empty(tips))
+    number_or_none(heads::first_empty(tips))
 }
 
 // Whether there is a next head in use; its slot, tip and anchor are written to the first three places of the list.
@@ -32,13 +32,13 @@ pub extern "C" fn probe_next_occupied_head(
         × (out.new ≡ head_got (next_head tips.now tails.now from) out.old) }
 {
     match head_entries::next_occupied_head(tips, tails, HeadSlot(from)) {
-        NextHead::At(head, tip, anchor) => {
-            put_word(out, 0, head.0);
-            put_word(out, 1, tip.0);
-            put_word(out, 2, anchor.0);
+        Some(used) => {
+            put_cell(out, 0, used.head.0);
+            put_cell(out, 1, used.tip.0);
+            put_cell(out, 2, used.anchor.0);
             1
         }
-        NextHead::Nothing => 0,
+        None => 0,
     }
 }
 
@@ -73,8 +73,7 @@ pub extern "C" fn probe_set_missing_parent_hash(
 )
     ensures { missing.new ≡ set_missing tips.now missing.old head (hash_at hash.now 0) }
 {
-    let bytes = cells::hash_at(hash, 0);
-    head_entries::set_missing_parent_hash(tips, missing, HeadSlot(head), bytes);
+    head_entries::set_missing_parent_hash(tips, missing, HeadSlot(head), cells::hash_at(hash, 0));
 }
 
 // Works out the caches of one head; `arriving` is NONE_REF where no block arrives.

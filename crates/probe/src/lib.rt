@@ -19,20 +19,18 @@ pub mod recover;
 pub mod restore;
 
 use crate::numbers::inserted;
-use query_numbers::{counted, said};
+use query_numbers::{Numbered, number_or_none};
 use rules::{Block, BlockSlot, BlockStatus, Sequence};
 
 #[tactic(auto, unfolding(crate::specs::Numbers::status_from))]
 fn status_from(number: u32) -> BlockStatus
     ensures { status_number result ≡ status_from number }
 {
-    if number == 1 {
-        return BlockStatus::Connected;
+    match number {
+        1 => BlockStatus::Connected,
+        2 => BlockStatus::Active,
+        _ => BlockStatus::Stored,
     }
-    if number == 2 {
-        return BlockStatus::Active;
-    }
-    BlockStatus::Stored
 }
 
 // 1 if the first hash is the lower, else 0: the first byte that differs decides.
@@ -40,7 +38,7 @@ fn status_from(number: u32) -> BlockStatus
 pub extern "C" fn probe_hash_less(a: &[u8], b: &[u8]) -> u32
     ensures { result ≡ yes (hash_less (hash_at a.now 0) (hash_at b.now 0)) }
 {
-    said(cells::hash_less(cells::hash_at(a, 0), cells::hash_at(b, 0)))
+    cells::hash_less(cells::hash_at(a, 0), cells::hash_at(b, 0)).number()
 }
 
 // Adds the change to the count and answers with the new one, held from 0 to 255; NONE_REF is an empty slot, which keeps its count.
@@ -54,7 +52,7 @@ pub extern "C" fn probe_adjust_head_ref_count(
     ensures { (result ≡ or_none (adjusted_at sequences.now counts.old slot change))
         × (counts.new ≡ adjust_counts sequences.now counts.old slot change) }
 {
-    counted(block_counts::adjust_head_ref_count(sequences, counts, BlockSlot(slot), change))
+    number_or_none(block_counts::adjust_head_ref_count(sequences, counts, BlockSlot(slot), change))
 }
 
 // Sets the count; 1 if the slot is occupied, else 0 and nothing changes.
@@ -68,7 +66,7 @@ pub extern "C" fn probe_set_head_ref_count(
     ensures { (result ≡ yes (occupied sequences.now slot))
         × (counts.new ≡ set_occupied sequences.now counts.old slot count) }
 {
-    said(block_counts::set_head_ref_count(sequences, counts, BlockSlot(slot), count))
+    block_counts::set_head_ref_count(sequences, counts, BlockSlot(slot), count).number()
 }
 
 // Sets bit 0 of the flags, or clears it where the value is 0; 1 if the slot is occupied, else 0 and nothing changes.
@@ -82,7 +80,7 @@ pub extern "C" fn probe_set_on_active_chain(
     ensures { (result ≡ yes (occupied sequences.now slot))
         × (flags.new ≡ set_on_active_chain sequences.now flags.old slot (not (eqb value 0))) }
 {
-    said(block_flags::set_on_active_chain(sequences, flags, BlockSlot(slot), value != 0))
+    block_flags::set_on_active_chain(sequences, flags, BlockSlot(slot), value != 0).number()
 }
 
 // Sets the status, 1 Connected, 2 Active, any other number Stored; 1 if the slot is occupied, else 0 and nothing changes.
@@ -96,7 +94,7 @@ pub extern "C" fn probe_set_status(
     ensures { (result ≡ yes (occupied sequences.now slot))
         × (flags.new ≡ set_status sequences.now flags.old slot (status_from status)) }
 {
-    said(block_flags::set_status(sequences, flags, BlockSlot(slot), status_from(status)))
+    block_flags::set_status(sequences, flags, BlockSlot(slot), status_from(status)).number()
 }
 
 // Writes the block into the slot, be it occupied or empty; beyond n nothing changes.
@@ -118,9 +116,8 @@ pub extern "C" fn probe_insert_at(
         ≡ insert_at (blocks_of hashes.old parents.old sequences.old counts.old flags.old) slot
         (block_of (hash_at hash.now 0) parent sequence count bits) }
 {
-    let bytes = cells::hash_at(hash, 0);
     let block = Block {
-        hash: bytes,
+        hash: cells::hash_at(hash, 0),
         parent: BlockSlot(parent),
         sequence: Sequence(sequence),
         count,
@@ -159,9 +156,8 @@ pub extern "C" fn probe_insert(
         ≡ insert (blocks_of hashes.old parents.old sequences.old counts.old flags.old)
         (block_of (hash_at hash.now 0) parent sequence count bits)) }
 {
-    let bytes = cells::hash_at(hash, 0);
     let block = Block {
-        hash: bytes,
+        hash: cells::hash_at(hash, 0),
         parent: BlockSlot(parent),
         sequence: Sequence(sequence),
         count,
@@ -184,7 +180,7 @@ pub extern "C" fn probe_delete(
         × (blocks_of hashes.new parents.new sequences.new counts.new flags.new ≡ delete
         (blocks_of hashes.old parents.old sequences.old counts.old flags.old) slot) }
 {
-    said(block_changes::delete(hashes, parents, sequences, counts, flags, BlockSlot(slot)))
+    block_changes::delete(hashes, parents, sequences, counts, flags, BlockSlot(slot)).number()
 }
 
 // Sets the parent; an empty slot is written too.
@@ -206,5 +202,5 @@ pub extern "C" fn probe_set_parent_ref(
     ensures { (result ≡ yes (occupied sequences.now slot))
         × (parents.new ≡ set_parent parents.old sequences.now slot parent) }
 {
-    said(block_changes::set_parent_ref(parents, sequences, BlockSlot(slot), BlockSlot(parent)))
+    block_changes::set_parent_ref(parents, sequences, BlockSlot(slot), BlockSlot(parent)).number()
 }

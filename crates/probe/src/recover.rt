@@ -4,8 +4,8 @@ ghost use Rattle.probe.specs.Numbers.{is_given, time_got, ask_number};
 ghost use Rattle.rules.specs.Timer.{due, recovery, mark_requested, deadline};
 
 use crate::numbers::asked;
-use cells::put_time;
-use rules::{Deadline, HeadSlot};
+use cells::put_cell;
+use rules::HeadSlot;
 
 // When a head is due: 0 if its request time is 0, else time + retry, held at the 64-bit maximum.
 #[unsafe(no_mangle)]
@@ -59,10 +59,10 @@ pub extern "C" fn probe_earliest_recovery_deadline(
         ≡ time_got (deadline tips.now requested.now connected.now retry) out.old) }
 {
     match timer::earliest_recovery_deadline(tips, requested, connected, retry) {
-        Deadline::At(time) => {
-            put_time(out, 0, time);
+        Some(time) => {
+            put_cell(out, 0, time);
             1
         }
-        Deadline::Never => 0,
+        None => 0,
     }
 }

@@ -5,23 +5,20 @@ ghost use Rattle.std.specs.Prelude.{◌≡◌, true};
 ghost use Rattle.rules.specs.Records.{tables_of};
 ghost use Rattle.rules.specs.Promotion.{promoted as promoted_rule};
 ghost use Rattle.rules.specs.BlockTable.{set_on_active_chain, set_status};
-ghost use Rattle.rules.specs.Answers.{outcome_said};
+ghost use Rattle.rules.specs.Answers.{outcome_said, recorded};
 ghost use Rattle.rules.specs.Calls.{state_of, is_next, promote as promote_rule, Sets};
 
 use all_caches::recompute_all_caches;
 use block_flags::{set_on_active_chain, set_status};
 use blocks::is_occupied;
-use cells::word_at;
-use rules::{BlockSlot, BlockStatus, Outcome, Recorded, Refusal};
+use cells::cell_at;
+use rules::{BlockSlot, BlockStatus, Refusal};
 use shape::is_shaped;
 
 fn is_next(parents: &[u32], active: BlockSlot, slot: BlockSlot) -> bool
     ensures { result ≡ is_next parents.now active.0 slot.0 }
 {
-    if active.0 == BlockSlot::NONE_REF.0 {
-        return true;
-    }
-    word_at(parents, slot.0) == active.0
+    active == BlockSlot::NONE_REF || BlockSlot(cell_at(parents, slot.0)) == active
 }
 
 fn activate(sequences: &[u32], flags: &mut [u8], slot: BlockSlot)
@@ -73,8 +70,8 @@ pub fn promote(
     connected: &mut [u8],
     active: BlockSlot,
     slot: BlockSlot,
-) -> Recorded
-    ensures { Sets (outcome_said result.outcome) result.active.0
+) -> Result<BlockSlot, Refusal>
+    ensures { Sets (outcome_said result) (recorded result active.0)
         (tables_of hashes.now parents.now sequences.now counts.now flags.new
         tips.now tails.new missing.new requested.new arrivals.now connected.new)
         (promote_rule
@@ -86,29 +83,17 @@ pub fn promote(
         hashes, parents, sequences, counts, flags, tips, tails, missing, requested, arrivals,
         connected,
     ) {
-        return Recorded {
-            outcome: Outcome::Refused(Refusal::Shape),
-            active,
-        };
+        return Err(Refusal::Shape);
     }
     if !is_occupied(sequences, slot) {
-        return Recorded {
-            outcome: Outcome::Refused(Refusal::NoBlock),
-            active,
-        };
+        return Err(Refusal::NoBlock);
     }
     if !is_next(parents, active, slot) {
-        return Recorded {
-            outcome: Outcome::Refused(Refusal::NotNext),
-            active,
-        };
+        return Err(Refusal::NotNext);
     }
     raise(
         hashes, parents, sequences, counts, flags, tips, tails, missing, requested, arrivals,
         connected, slot,
     );
-    Recorded {
-        outcome: Outcome::Done,
-        active: slot,
-    }
+    Ok(slot)
 }

@@ -1,13 +1,12 @@
 -- The numbers that stand for answers.
-use Rattle.std.specs.Prelude.{Bool, true, false, ℕ, ◌+◌}
-use Rattle.std.proofs.Math.Option.{Option, none, some}
+use Rattle.std.specs.Prelude.{Bool, true, false, ℕ, ◌+◌, Option, None, Some}
 use Rattle.rules.specs.Records.{NONE}
 use Rattle.rules.specs.Anchor.{Anchor, connection, tail}
 
 -- NONE_REF is none
 abbrev pub or_none : (o : Option ℕ) → ℕ
-or_none none = NONE
-or_none (some i) = i
+or_none None = NONE
+or_none (Some i) = i
 
 abbrev pub yes : (answer : Bool) → ℕ
 yes true = 1

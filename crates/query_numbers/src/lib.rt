@@ -1,98 +1,112 @@
 // The numbers that stand for answers: a refusal's, NONE_REF for none, 1 and 0 for yes and no.
 #![tactic(auto)]
 
-ghost use Rattle.std.specs.Prelude.{◌≡◌};
+ghost use Rattle.std.specs.Prelude.{◌≡◌, ℕ, option_map};
 ghost use Rattle.rules.specs.Records.{status_number};
-ghost use Rattle.rules.specs.Answers.{refusal_number, slot_found, head_found, count_got, status_got, anchor_located};
+ghost use Rattle.rules.specs.Answers.{refusal_number, anchor_located};
 ghost use Rattle.query_numbers.specs.Numbers.{or_none, yes, anchor_number};
 
-use rules::{
-    BlockSlot, BlockStatus, Counted, Found, FoundHead, HeadSlot, Located, Refusal, StatusFound,
-};
+use rules::{BlockSlot, BlockStatus, HeadSlot, Located, Refusal};
 
-// What stands for a count or a status that is not there.
+// What stands for an answer that is not there.
 const NOTHING: u32 = 4294967295;
 
-// The number of a refusal, from 1 for the shape to 10 for a list that is too short.
-pub fn refusal_number(why: Refusal) -> u32
-    ensures { result ≡ refusal_number why }
-{
-    match why {
-        Refusal::Shape => 1,
-        Refusal::HashLength => 2,
-        Refusal::NoBlock => 3,
-        Refusal::ReservedSequence => 4,
-        Refusal::ZeroHash => 5,
-        Refusal::Known => 6,
-        Refusal::Full => 7,
-        Refusal::NotNext => 8,
-        Refusal::HoldsActive => 9,
-        Refusal::ShortList => 10,
+// An answer that a number of 32 bits stands for.
+pub trait Numbered: Copy {
+    ghost number: { Self → ℕ };
+
+    fn number(self) -> u32
+        ensures { result ≡ number self };
+}
+
+impl Numbered for BlockSlot {
+    ghost number = { λ slot. slot.0 };
+
+    fn number(self) -> u32 {
+        let BlockSlot(slot) = self;
+        slot
+    }
+}
+
+impl Numbered for HeadSlot {
+    ghost number = { λ head. head.0 };
+
+    fn number(self) -> u32 {
+        let HeadSlot(head) = self;
+        head
+    }
+}
+
+// A count of a block.
+impl Numbered for u8 {
+    ghost number = { λ count. count };
+
+    fn number(self) -> u32 {
+        u32::from(self)
+    }
+}
+
+// How many there are.
+impl Numbered for u32 {
+    ghost number = { λ many. many };
+
+    fn number(self) -> u32 {
+        self
+    }
+}
+
+// 0 for Stored, 1 for Connected, 2 for Active.
+impl Numbered for BlockStatus {
+    ghost number = { status_number };
+
+    fn number(self) -> u32 {
+        match self {
+            BlockStatus::Stored => 0,
+            BlockStatus::Connected => 1,
+            BlockStatus::Active => 2,
+        }
     }
 }
 
 // 1 for yes, 0 for no.
-pub fn said(answer: bool) -> u32
-    ensures { result ≡ yes answer }
-{
-    if answer { 1 } else { 0 }
-}
+impl Numbered for bool {
+    ghost number = { yes };
 
-// The block slot, or NONE_REF for none.
-pub fn found(f: Found) -> u32
-    ensures { result ≡ or_none (slot_found f) }
-{
-    match f {
-        Found::At(slot) => slot.0,
-        Found::Nothing => BlockSlot::NONE_REF.0,
+    fn number(self) -> u32 {
+        if self { 1 } else { 0 }
     }
 }
 
-// The head slot, or NONE_REF for none.
-pub fn found_head(f: FoundHead) -> u32
-    ensures { result ≡ or_none (head_found f) }
-{
-    match f {
-        FoundHead::At(head) => head.0,
-        FoundHead::Nothing => HeadSlot::NONE_REF.0,
+// 0 where a call gives nothing but that it is done.
+impl Numbered for () {
+    ghost number = { λ _. 0 };
+
+    fn number(self) -> u32 {
+        0
     }
 }
 
-// The count, or 4,294,967,295 for none.
-pub fn counted(c: Counted) -> u32
-    ensures { result ≡ or_none (count_got c) }
-{
-    match c {
-        Counted::Count(count) => count as u32,
-        Counted::Nothing => NOTHING,
+// From 1 for the shape to 10 for a list that is too short.
+impl Numbered for Refusal {
+    ghost number = { refusal_number };
+
+    fn number(self) -> u32 {
+        self as u32
     }
 }
 
-fn status_number(s: BlockStatus) -> u32
-    ensures { result ≡ status_number s }
+// The answer's number, or 4,294,967,295 for none.
+pub fn number_or_none<A: Numbered>(answer: Option<A>) -> u32
+    ensures { result ≡ or_none (option_map A.number answer) }
 {
-    match s {
-        BlockStatus::Stored => 0,
-        BlockStatus::Connected => 1,
-        BlockStatus::Active => 2,
-    }
-}
-
-// 0 for Stored, 1 for Connected, 2 for Active, or 4,294,967,295 for none.
-pub fn status_found(f: StatusFound) -> u32
-    ensures { result ≡ or_none (status_got f) }
-{
-    match f {
-        StatusFound::Status(s) => status_number(s),
-        StatusFound::Nothing => NOTHING,
-    }
+    answer.map_or(NOTHING, A::number)
 }
 
 // The slot of a tail; that of a connection with 2^32 added.
-pub fn anchored(l: Located) -> u64
-    ensures { result ≡ anchor_number (anchor_located l) }
+pub fn anchored(located: Located) -> u64
+    ensures { result ≡ anchor_number (anchor_located located) }
 {
-    match l {
+    match located {
         Located::Connection(at) => 4294967296 + at.0 as u64,
         Located::Tail(at) => at.0 as u64,
     }

@@ -1,8 +1,7 @@
 // Heads made anew from the blocks: port of `rebuild_from_blocks` of src/chain_heads.rs.
 #![tactic(auto)]
 
-ghost use Rattle.std.specs.Prelude.{◌≡◌, true, false, not, length, if◌then◌else◌};
-ghost use Rattle.rules.specs.Common.{is_some};
+ghost use Rattle.std.specs.Prelude.{◌≡◌, true, false, not, length, if◌then◌else◌, is_some};
 ghost use Rattle.rules.specs.Records.{tables_of};
 ghost use Rattle.rules.specs.Admission.{first_empty};
 ghost use Rattle.rules.specs.Rebuild.{rebuild_at, rebuild_heads, rebuilt};
@@ -13,27 +12,10 @@ use head_insertion::insert_head;
 use heads::first_empty;
 use named_parents::{is_end, name_parents};
 use recount::recompute_head_ref_counts;
-use rules::{BlockSlot, FoundHead};
-
-fn is_full(tips: &[u32]) -> bool
-    ensures { result ≡ not (is_some (first_empty tips.now)) }
-{
-    match first_empty(tips) {
-        FoundHead::At(_) => false,
-        FoundHead::Nothing => true,
-    }
-}
-
-fn name_again(parents: &[u32], sequences: &[u32], named: &mut [u8], stale: bool)
-    ensures { named.new
-        ≡ (if stale then named_parents parents.now sequences.now (length named.old) else named.old) }
-{
-    if stale {
-        name_parents(parents, sequences, named);
-    }
-}
+use rules::BlockSlot;
 
 // A childless block becomes a head. Blocks are freed only where the head table was full.
+#[tactic(auto, unfolding(rules::specs::Rebuild::rebuild_at))]
 fn rebuild_at(
     hashes: &mut [u8],
     parents: &mut [u32],
@@ -46,7 +28,7 @@ fn rebuild_at(
     requested: &mut [u64],
     arrivals: &mut [u64],
     connected: &mut [u8],
-    named: &mut [u8],
+    named: &mut [bool],
     arrival: u64,
     active: BlockSlot,
     slot: BlockSlot,
@@ -60,8 +42,7 @@ fn rebuild_at(
         × (named.new ≡ named_parents parents.new sequences.new (length named.old)) }
 {
     if is_end(parents, sequences, named, slot) {
-        let full = is_full(tips);
-        let zeros = [0u8; 32];
+        let full = first_empty(tips).is_none();
         insert_head(
             hashes,
             parents,
@@ -76,11 +57,13 @@ fn rebuild_at(
             connected,
             slot,
             BlockSlot::NONE_REF,
-            &zeros,
+            &[0u8; 32],
             arrival,
             active,
         );
-        name_again(parents, sequences, named, full);
+        if full {
+            name_parents(parents, sequences, named);
+        }
     }
 }
 
@@ -96,7 +79,7 @@ fn rebuild_heads(
     requested: &mut [u64],
     arrivals: &mut [u64],
     connected: &mut [u8],
-    named: &mut [u8],
+    named: &mut [bool],
     arrival: u64,
     active: BlockSlot,
 )
@@ -107,9 +90,7 @@ fn rebuild_heads(
         active.0 }
 {
     name_parents(parents, sequences, named);
-    let n = slots(sequences);
-    let mut i: u32 = 0;
-    while i < n {
+    for i in 0..slots(sequences) {
         rebuild_at(
             hashes,
             parents,
@@ -127,12 +108,12 @@ fn rebuild_heads(
             active,
             BlockSlot(i),
         );
-        i += 1;
     }
 }
 
 // Childless blocks in slot order become heads with the given arrival time, beside the heads that are there, evicting first when full;
 // then counts are set as in removal.
+#[tactic(auto, unfolding(rules::specs::Rebuild::rebuilt))]
 pub fn rebuild_from_blocks(
     hashes: &mut [u8],
     parents: &mut [u32],
@@ -153,7 +134,7 @@ pub fn rebuild_from_blocks(
         ≡ rebuilt (tables_of hashes.old parents.old sequences.old counts.old flags.old
         tips.old tails.old missing.old requested.old arrivals.old connected.old) arrival active.0 }
 {
-    let mut named = [0u8; 1024];
+    let mut named = [false; 1024];
     rebuild_heads(
         hashes, parents, sequences, counts, flags, tips, tails, missing, requested, arrivals,
         connected, &mut named, arrival, active,

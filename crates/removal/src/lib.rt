@@ -3,28 +3,18 @@
 #![tactic(auto)]
 
 ghost use Rattle.std.specs.Prelude.{◌≡◌};
-ghost use Rattle.rules.specs.Common.{is_at};
 ghost use Rattle.rules.specs.Records.{heads_of, tables_of};
 ghost use Rattle.rules.specs.Removal.{drop_head, drop_heads, blocks_deleted};
 ghost use Rattle.rules.specs.Answers.{head_found};
-ghost use Rattle.removal.specs.After.{heads_left};
 
 use all_caches::recompute_all_caches;
-use cells::{put_word, slots};
+use cells::{put_cell, slots};
 use heads::put_head;
 use heirs::{heir, is_head_freed};
 use recount::recompute_head_ref_counts;
-use rules::{BlockSlot, FoundHead, Head, HeadSlot};
+use rules::{BlockSlot, Head, HeadSlot};
 
-fn is_at(moving: FoundHead, head: HeadSlot) -> bool
-    ensures { result ≡ is_at (head_found moving) head.0 }
-{
-    match moving {
-        FoundHead::At(at) => at.0 == head.0,
-        FoundHead::Nothing => false,
-    }
-}
-
+#[tactic(auto, unfolding(rules::specs::Removal::drop_head))]
 fn drop_head(
     tips: &mut [u32],
     tails: &mut [u32],
@@ -33,7 +23,7 @@ fn drop_head(
     arrivals: &mut [u64],
     connected: &mut [u8],
     deleted: &[u32],
-    moving: FoundHead,
+    moving: Option<HeadSlot>,
     reattach: BlockSlot,
     head: HeadSlot,
 )
@@ -41,11 +31,9 @@ fn drop_head(
         ≡ drop_head deleted.now (head_found moving) reattach.0 head.0
         (heads_of tips.old tails.old missing.old requested.old arrivals.old connected.old) }
 {
-    if is_at(moving, head) {
-        put_word(tips, head.0, reattach.0);
-        return;
-    }
-    if is_head_freed(tips, deleted, head) {
+    if moving == Some(head) {
+        put_cell(tips, head.0, reattach.0);
+    } else if is_head_freed(tips, deleted, head) {
         put_head(
             tips,
             tails,
@@ -67,16 +55,14 @@ fn drop_heads(
     arrivals: &mut [u64],
     connected: &mut [u8],
     deleted: &[u32],
-    moving: FoundHead,
+    moving: Option<HeadSlot>,
     reattach: BlockSlot,
 )
     ensures { heads_of tips.new tails.new missing.new requested.new arrivals.new connected.new
         ≡ drop_heads deleted.now (head_found moving) reattach.0
         (heads_of tips.old tails.old missing.old requested.old arrivals.old connected.old) }
 {
-    let m = slots(tips);
-    let mut k: u32 = 0;
-    while k < m {
+    for k in 0..slots(tips) {
         drop_head(
             tips,
             tails,
@@ -89,37 +75,11 @@ fn drop_heads(
             reattach,
             HeadSlot(k),
         );
-        k += 1;
     }
 }
 
-fn update_heads(
-    parents: &[u32],
-    sequences: &[u32],
-    flags: &[u8],
-    tips: &mut [u32],
-    tails: &mut [u32],
-    missing: &mut [u8],
-    requested: &mut [u64],
-    arrivals: &mut [u64],
-    connected: &mut [u8],
-    deleted: &[u32],
-    moving: FoundHead,
-    reattach: BlockSlot,
-)
-    ensures { heads_of tips.new tails.new missing.new requested.new arrivals.new connected.new
-        ≡ heads_left parents.now sequences.now flags.now deleted.now (head_found moving)
-        reattach.0 (heads_of tips.old tails.old missing.old requested.old arrivals.old connected.old) }
-{
-    drop_heads(
-        tips, tails, missing, requested, arrivals, connected, deleted, moving, reattach,
-    );
-    recompute_all_caches(
-        parents, sequences, flags, tips, tails, missing, requested, connected,
-    );
-}
-
 // The listed blocks are freed already; `reattach` is the parent of their root.
+#[tactic(auto, unfolding(rules::specs::Removal::blocks_deleted))]
 pub fn on_blocks_deleted(
     hashes: &[u8],
     parents: &[u32],
@@ -142,9 +102,11 @@ pub fn on_blocks_deleted(
         deleted.now reattach.0 }
 {
     let moving = heir(parents, sequences, tips, deleted, reattach);
-    update_heads(
-        parents, sequences, flags, tips, tails, missing, requested, arrivals, connected, deleted,
-        moving, reattach,
+    drop_heads(
+        tips, tails, missing, requested, arrivals, connected, deleted, moving, reattach,
+    );
+    recompute_all_caches(
+        parents, sequences, flags, tips, tails, missing, requested, connected,
     );
     recompute_head_ref_counts(parents, sequences, counts);
 }

@@ -9,7 +9,7 @@ ghost use Rattle.rules.specs.Calls.{state_of, restart as restart_rule, Does};
 use empties::empty_heads;
 use rebuild::rebuild_from_blocks;
 use recount::recompute_head_ref_counts;
-use rules::{BlockSlot, Outcome, Refusal};
+use rules::{BlockSlot, Refusal};
 use shape::is_shaped;
 
 // Empties the heads, sets the counts, then rebuilds the heads with `clock` as their arrival time; a refusal changes nothing.
@@ -27,7 +27,7 @@ pub fn restart(
     connected: &mut [u8],
     active: BlockSlot,
     clock: u64,
-) -> Outcome
+) -> Result<(), Refusal>
     ensures { Does (outcome_said result)
         (tables_of hashes.new parents.new sequences.new counts.new flags.new
         tips.new tails.new missing.new requested.new arrivals.new connected.new)
@@ -40,7 +40,7 @@ pub fn restart(
         hashes, parents, sequences, counts, flags, tips, tails, missing, requested, arrivals,
         connected,
     ) {
-        return Outcome::Refused(Refusal::Shape);
+        return Err(Refusal::Shape);
     }
     empty_heads(tips, tails, missing, requested, arrivals, connected);
     recompute_head_ref_counts(parents, sequences, counts);
@@ -48,5 +48,5 @@ pub fn restart(
         hashes, parents, sequences, counts, flags, tips, tails, missing, requested, arrivals,
         connected, clock, active,
     );
-    Outcome::Done
+    Ok(())
 }

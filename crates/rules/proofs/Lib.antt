@@ -2,6 +2,7 @@ pub mod Places
 pub mod Splits
 pub mod Cells
 pub mod Search
+pub mod Ranges
 pub mod Sums
 pub mod Under
 pub mod Each
@@ -9,13 +10,12 @@ pub mod Freed
 pub mod Hashes
 pub mod Orders
 pub mod Best
+pub mod Reduced
 pub mod Timer
 pub mod Placed
-pub mod Rank
 pub mod Walks
 pub mod Refusals
 pub mod Marked
-pub mod Loops
 pub mod Does
 pub mod Kept
 pub mod Demand3

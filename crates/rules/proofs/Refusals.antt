@@ -1,11 +1,10 @@
 -- Every refusal is one of the paper's numbers, of fresh, restart, timer and deadline 1 alone, of under 1 or 3, of screen 1 or 10, and a
 -- refused call leaves the state as it stood; under and screen always do.
-use Rattle.std.specs.Prelude.{if◌then◌else◌}
+use Rattle.std.specs.Prelude.{if◌then◌else◌, Option, None, Some}
 use mathlib.Core.Path.{◌≡◌, refl, ap}
 use mathlib.Core.Logic.{◌≢◌, ◌⊎◌, inl, inr}
 use mathlib.Core.Bool.{Bool, true, false, not, ◌&&◌}
 use mathlib.Core.List.{List}
-use mathlib.Core.Option.{Option, none, some}
 use Prim.Native.Nat.{ℕ, ◌<◌, ◌≤◌}
 use native.Mathlib.Omega.{arith}
 use borrow.Author.Tests.{eqb-true, eqb-false, lt-ltb}
@@ -72,7 +71,7 @@ pub record Free (s : State) (sequence : ℕ) (hash : List ℕ) (i : ℕ) : Type 
   pub len : length hash ≡ hash_length
   pub real : sequence ≢ NONE
   pub unknown : known s sequence hash ≡ false
-  pub next : next_free s.tables.blocks.sequences ≡ some i
+  pub next : next_free s.tables.blocks.sequences ≡ Some i
 
 module _ (s : State) (sequence : ℕ) (hash previous : List ℕ) (arrival : ℕ) where
   -- refused, or put into the lowest empty slot
@@ -187,8 +186,8 @@ module _ (s : State) where
 
   asks : (now : ℕ) (o : Option Ask) → Refuses First s (asked s now o)
   unfolding asked
-  asks now none = answers First s s none_due refl
-  asks now (some ask) = answers First s (asked s now (some ask)).after (request ask.head ask.claims (hash_at s.tables.heads.missing ask.head)) refl
+  asks now None = answers First s s none_due refl
+  asks now (Some ask) = answers First s (asked s now (Some ask)).after (request ask.head ask.claims (hash_at s.tables.heads.missing ask.head)) refl
 
   pub timer-refused : (now : ℕ) (span : Option ℕ) (n : ℕ) → (timer s now span).answer ≡ refused n → (n ≡ 1) × ((timer s now span).after ≡ s)
   unfolding timer Refuses

@@ -2,7 +2,7 @@
 -- blocks of damaged tables, and the screen of damaged heads.
 use mathlib.Core.Path.{◌≡◌, refl}
 use mathlib.Core.List.{List, [], ◌∷◌, ◌++◌, map}
-use mathlib.Core.Option.{some}
+use Rattle.std.specs.Prelude.{Some}
 use Prim.Native.Nat.{ℕ, ◌*◌}
 use lib.ListN.{length, replicate}
 use Rattle.rules.specs.Common.{lowest, better, best, count_below, all_below, any_before, placed, placed_below, in_order}
@@ -66,7 +66,7 @@ record Row : Type 0 where
 -- 01's own
 unfoldable whole : Row
 whole = record {
-  given = trial (fresh_state 4 2) (admits 5 10 9 ∷ admits 6 11 10 ∷ admits 6 12 10 ∷ timer_call 10 (some 5) ∷ promote_call 0 ∷ admits 6 11 10 ∷ admits 7 13 14 ∷ []);
+  given = trial (fresh_state 4 2) (admits 5 10 9 ∷ admits 6 11 10 ∷ admits 6 12 10 ∷ timer_call 10 (Some 5) ∷ promote_call 0 ∷ admits 6 11 10 ∷ admits 7 13 14 ∷ []);
   said = record {
     answers = slot 0 ∷ slot 1 ∷ slot 2 ∷ request 0 4 (hash 9) ∷ done ∷ refused 6 ∷ slot 3 ∷ [];
     sequences = 5 ∷ NONE ∷ 6 ∷ 7 ∷ [];
@@ -162,7 +162,7 @@ refreshed = record {
 -- a fork's head falls in a lower slot than its sibling's and finds itself first: it misses zeros, though the sibling knows the tail's previous hash
 unfoldable zeros-kept : Row
 zeros-kept = record {
-  given = trial (fresh_state 3 2) (admits 0 2 0 ∷ admits 2 3 1 ∷ admits 1 1 4 ∷ admits 2 5 1 ∷ timer_call 10 (some 5) ∷ timer_call 11 (some 5) ∷ []);
+  given = trial (fresh_state 3 2) (admits 0 2 0 ∷ admits 2 3 1 ∷ admits 1 1 4 ∷ admits 2 5 1 ∷ timer_call 10 (Some 5) ∷ timer_call 11 (Some 5) ∷ []);
   said = record {
     answers = slot 0 ∷ slot 1 ∷ slot 2 ∷ slot 0 ∷ request 1 0 (hash 4) ∷ request 0 0 (hash 0) ∷ [];
     sequences = 2 ∷ 2 ∷ 1 ∷ [];

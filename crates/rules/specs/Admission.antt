@@ -1,6 +1,5 @@
 -- Admission (01, "Admission"): the new block's head, the late tails, and admit's added step.
-use Rattle.std.specs.Prelude.{Bool, not, ◌&&◌, List, ℕ, suc, eqb, pos, set, if◌then◌else◌}
-use Rattle.std.proofs.Math.Option.{Option, none, some}
+use Rattle.std.specs.Prelude.{Bool, not, ◌&&◌, List, ℕ, suc, eqb, pos, set, if◌then◌else◌, Option, None, Some}
 use Rattle.rules.specs.Kinds.{BlockSlot, HeadSlot, Sequence, Time, Hash}
 use Rattle.rules.specs.Common.{lowest, in_order}
 use Rattle.rules.specs.Hashes.{zero_hash, hash_at, same_hash}
@@ -26,13 +25,13 @@ new_head tip arrival = head_of tip tip zero_hash 0 arrival 0
 unfoldable pub seat_head : (t : Tables) (tip arriving : BlockSlot) (previous : Hash) (arrival : Time) → Tables
 seat_head t tip arriving previous arrival =
     elim (first_empty t.heads.tips) [
-      | none ↦ t
-      | some k ↦ with_heads t (recompute_head t.blocks (put_head t.heads k (new_head tip arrival)) k arriving previous)
+      | None ↦ t
+      | Some k ↦ with_heads t (recompute_head t.blocks (put_head t.heads k (new_head tip arrival)) k arriving previous)
     ]
 
 -- a full head table evicts just before the insertion
 unfoldable pub make_room : (t : Tables) (active_head : BlockSlot) → Tables
-make_room t active_head = elim (first_empty t.heads.tips) [ none ↦ evict_one t active_head | some k ↦ t ]
+make_room t active_head = elim (first_empty t.heads.tips) [ None ↦ evict_one t active_head | Some k ↦ t ]
 
 unfoldable pub insert_head : (t : Tables) (tip arriving : BlockSlot) (previous : Hash) (arrival : Time) (active_head : BlockSlot) → Tables
 insert_head t tip arriving previous arrival active_head = seat_head (make_room t active_head) tip arriving previous arrival
@@ -50,9 +49,9 @@ unfoldable pub fork : (t : Tables) (block parent : BlockSlot) (previous : Hash) 
 fork t block parent previous arrival active_head = insert_head (one_more t parent) block block previous arrival active_head
 
 unfoldable pub place_head : (t : Tables) (block : BlockSlot) (parent : Option BlockSlot) (previous : Hash) (arrival : Time) (active_head : BlockSlot) → Tables
-place_head t block none previous arrival active_head = insert_head t block block previous arrival active_head
-place_head t block (some parent) previous arrival active_head =
-    elim (slot_of_head t.heads.tips parent) [ some k ↦ move_up t k block previous arrival | none ↦ fork t block parent previous arrival active_head ]
+place_head t block None previous arrival active_head = insert_head t block block previous arrival active_head
+place_head t block (Some parent) previous arrival active_head =
+    elim (slot_of_head t.heads.tips parent) [ Some k ↦ move_up t k block previous arrival | None ↦ fork t block parent previous arrival active_head ]
 
 -- ---- late tails
 
@@ -76,8 +75,8 @@ is_late t block sequence hash k =
 unfoldable pub joined : (t : Tables) (block : BlockSlot) → Tables
 joined t block =
     elim (slot_of_head t.heads.tips block) [
-      | some k ↦ with_heads t (clear t.heads k)
-      | none ↦ one_more t block
+      | Some k ↦ with_heads t (clear t.heads k)
+      | None ↦ one_more t block
     ]
 
 unfoldable pub link : (t : Tables) (block : BlockSlot) (k : HeadSlot) → Tables

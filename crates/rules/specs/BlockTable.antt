@@ -1,6 +1,5 @@
 -- The block table (01, "Block table").
-use Rattle.std.specs.Prelude.{Bool, true, false, not, ◌&&◌, List, [], ℕ, zero, suc, ◌+◌, ◌-◌, min, eqb, ltb, ℤ, pos, negsuc, set, if◌then◌else◌}
-use Rattle.std.proofs.Math.Option.{Option, none, some}
+use Rattle.std.specs.Prelude.{Bool, true, false, not, ◌&&◌, List, [], ℕ, zero, suc, ◌+◌, ◌-◌, min, eqb, ltb, ℤ, pos, negsuc, set, if◌then◌else◌, Option, None, Some}
 use Rattle.rules.specs.Kinds.{BlockSlot, Sequence, Hash}
 use Rattle.rules.specs.Common.{lowest, count_below, all_below}
 use Rattle.rules.specs.Hashes.{hash_at, same_hash}
@@ -25,17 +24,17 @@ next_free sequences = lowest (λ i. not (occupied sequences i)) (slots_of sequen
 -- the block one lower in sequence with the previous hash; sequence 0 has no parent
 unfoldable pub find_parent : (hashes sequences : List ℕ) (sequence : Sequence) (previous : Hash) → Option BlockSlot
 find_parent hashes sequences sequence previous =
-    if eqb sequence 0 then none else find hashes sequences (sequence - 1) previous
+    if eqb sequence 0 then None else find hashes sequences (sequence - 1) previous
 
 -- nothing for an empty or out-of-range slot
 unfoldable pub get : (b : Blocks) (i : BlockSlot) → Option Block
-get b i = if occupied b.sequences i then some (block_at b i) else none
+get b i = if occupied b.sequences i then Some (block_at b i) else None
 
 unfoldable pub head_ref_count : (sequences counts : List ℕ) (i : BlockSlot) → Option ℕ
-head_ref_count sequences counts i = if occupied sequences i then some (count_at counts i) else none
+head_ref_count sequences counts i = if occupied sequences i then Some (count_at counts i) else None
 
 unfoldable pub status_at : (sequences flags : List ℕ) (i : BlockSlot) → Option ℕ
-status_at sequences flags i = if occupied sequences i then some (status_of (flags_at flags i)) else none
+status_at sequences flags i = if occupied sequences i then Some (status_of (flags_at flags i)) else None
 
 -- ---- children
 
@@ -94,7 +93,7 @@ adjusted count (negsuc down) = count - suc down
 -- the new count; nothing on an empty slot
 unfoldable pub adjusted_at : (sequences counts : List ℕ) (i : BlockSlot) (change : ℤ) → Option ℕ
 adjusted_at sequences counts i change =
-    if occupied sequences i then some (adjusted (count_at counts i) change) else none
+    if occupied sequences i then Some (adjusted (count_at counts i) change) else None
 
 unfoldable pub adjust_counts : (sequences counts : List ℕ) (i : BlockSlot) (change : ℤ) → List ℕ
 adjust_counts sequences counts i change =
@@ -127,7 +126,7 @@ pub data Insertion : Type 0 where
 -- the lowest empty slot; a block of the reserved sequence gets none, and a full table has none
 unfoldable pub insertion : (sequences : List ℕ) (block : Block) → Insertion
 insertion sequences block =
-    if eqb block.sequence.0 NONE then reserved else elim (next_free sequences) [ none ↦ full | some i ↦ into_slot i ]
+    if eqb block.sequence.0 NONE then reserved else elim (next_free sequences) [ None ↦ full | Some i ↦ into_slot i ]
 
 unfoldable pub insert : (b : Blocks) (block : Block) → Blocks
 insert b block = elim (insertion b.sequences block) [ into_slot i ↦ insert_at b i block | reserved ↦ b | full ↦ b ]

@@ -1,6 +1,5 @@
 -- The caches of a head (01, "Caches"): flag, anchor, missing hash and request time, from the walk of its tip.
-use Rattle.std.specs.Prelude.{Bool, true, false, ◌&&◌, List, ℕ, ◌*◌, eqb, leb, get_or, set, take, drop, if◌then◌else◌}
-use Rattle.std.proofs.Math.Option.{Option, none, some}
+use Rattle.std.specs.Prelude.{Bool, true, false, ◌&&◌, List, ℕ, ◌*◌, eqb, leb, get_or, set, take, drop, if◌then◌else◌, Option, None, Some}
 use Rattle.rules.specs.Kinds.{BlockSlot, HeadSlot, Hash}
 use Rattle.rules.specs.Common.{lowest, in_order}
 use Rattle.rules.specs.Hashes.{hash_length, zero_hash, hash_at, put_hash}
@@ -14,7 +13,7 @@ waits_at tips tails connected i k = stored tips connected k && eqb (tail_at tail
 -- the lowest stored head with this cached tail; the head itself where there is none
 unfoldable pub knowing : (tips tails connected : List ℕ) (i : BlockSlot) (k : HeadSlot) → HeadSlot
 knowing tips tails connected i k =
-    elim (lowest (waits_at tips tails connected i) (slots_of tips)) [ none ↦ k | some j ↦ j ]
+    elim (lowest (waits_at tips tails connected i) (slots_of tips)) [ None ↦ k | Some j ↦ j ]
 
 -- the missing hash is a part of the arriving block's previous hash where the tail is that block, else of the heads' hashes
 unfoldable pub missing_part : (previous : Hash) (missing : List ℕ) (at arriving : BlockSlot) (k : HeadSlot) → Hash
@@ -62,7 +61,7 @@ slot_of_head tips tip = lowest (λ k. used tips k && eqb (tip_at tips k) tip) (s
 
 unfoldable pub refresh_head : (parents sequences flags tips : List ℕ) (c : Caches) (tip : BlockSlot) → Caches
 refresh_head parents sequences flags tips c tip =
-    elim (slot_of_head tips tip) [ none ↦ c | some k ↦ recompute parents sequences flags tips c k NONE zero_hash ]
+    elim (slot_of_head tips tip) [ None ↦ c | Some k ↦ recompute parents sequences flags tips c k NONE zero_hash ]
 
 unfoldable pub recompute_used : (parents sequences flags tips : List ℕ) (k : HeadSlot) (c : Caches) → Caches
 recompute_used parents sequences flags tips k c =
@@ -96,15 +95,15 @@ next_used tips from = lowest (λ k. leb from k && used tips k) (slots_of tips)
 
 unfoldable pub next_head : (tips tails : List ℕ) (from : HeadSlot) → Option HeadInUse
 next_head tips tails from =
-    elim (next_used tips from) [ none ↦ none | some k ↦ some (record { slot = k; tip = tip_at tips k; anchor = tail_at tails k }) ]
+    elim (next_used tips from) [ None ↦ None | Some k ↦ Some (record { slot = k; tip = tip_at tips k; anchor = tail_at tails k }) ]
 
 -- the tip of a connected head
 unfoldable pub connected_head_at : (tips connected : List ℕ) (k : HeadSlot) → Option BlockSlot
-connected_head_at tips connected k = if used tips k && is_connected connected k then some (tip_at tips k) else none
+connected_head_at tips connected k = if used tips k && is_connected connected k then Some (tip_at tips k) else None
 
 -- the tail of a stored head
 unfoldable pub stored_head_tail : (tips tails connected : List ℕ) (k : HeadSlot) → Option BlockSlot
-stored_head_tail tips tails connected k = if stored tips connected k then some (tail_at tails k) else none
+stored_head_tail tips tails connected k = if stored tips connected k then Some (tail_at tails k) else None
 
 -- an empty head keeps its missing hash
 unfoldable pub set_missing : (tips missing : List ℕ) (k : HeadSlot) (hash : Hash) → List ℕ

@@ -1,8 +1,7 @@
 -- The calls (01, "Replies and refusals"): which refusal applies first, what a call does, and lists of calls.
-use Rattle.std.specs.Prelude.{◌≡◌, Bool, not, ◌&&◌, ◌||◌, List, [], ◌∷◌, ℕ, eqb, ltb, leb, length, if◌then◌else◌}
-use Rattle.std.proofs.Math.Option.{Option, none, some}
+use Rattle.std.specs.Prelude.{◌≡◌, Bool, not, ◌&&◌, ◌||◌, List, [], ◌∷◌, ℕ, eqb, ltb, leb, length, if◌then◌else◌, Option, None, Some, is_some}
 use Rattle.rules.specs.Kinds.{BlockSlot, Sequence, Time, Hash}
-use Rattle.rules.specs.Common.{is_some, lowest}
+use Rattle.rules.specs.Common.{lowest}
 use Rattle.rules.specs.Hashes.{hash_length, zero_hash, hash_at, same_hash}
 use Rattle.rules.specs.Records.{NONE, Blocks, Tables, slots_of, parent_at, occupied, active, empty_blocks, empty_heads, with_blocks, with_heads, with_requested, blocks_fit, heads_fit, block_of}
 use Rattle.rules.specs.BlockTable.{find, next_free, find_parent, in_subtree, mark_subtree, insert_at}
@@ -76,8 +75,8 @@ abbrev pub new_block : (sequence : Sequence) (hash : Hash) (parent : BlockSlot) 
 new_block sequence hash parent = block_of hash parent sequence 0 0
 
 abbrev pub slot_or_none : (found : Option BlockSlot) → BlockSlot
-slot_or_none none = NONE
-slot_or_none (some i) = i
+slot_or_none None = NONE
+slot_or_none (Some i) = i
 
 -- an occupied slot has this sequence and hash
 abbrev pub known : (s : State) (sequence : Sequence) (hash : Hash) → Bool
@@ -106,7 +105,7 @@ admit s sequence hash previous arrival =
     else if eqb sequence NONE then refuse s 4
     else if same_hash hash zero_hash then refuse s 5
     else if known s sequence hash then refuse s 6
-    else elim (next_free s.tables.blocks.sequences) [ none ↦ refuse s 7 | some i ↦ takes_slot s i sequence hash previous arrival ]
+    else elim (next_free s.tables.blocks.sequences) [ None ↦ refuse s 7 | Some i ↦ takes_slot s i sequence hash previous arrival ]
 
 -- ---- promote
 
@@ -166,8 +165,8 @@ screen s room =
 
 -- the chosen head's request time becomes now
 unfoldable pub asked : (s : State) (now : Time) (ask : Option Ask) → Stepped
-asked s now none = answering s none_due
-asked s now (some ask) =
+asked s now None = answering s none_due
+asked s now (Some ask) =
     answering
     (keeping s (with_heads s.tables (with_requested s.tables.heads (mark_requested s.tables.heads.requested ask.head now))))
     (request ask.head ask.claims (hash_at s.tables.heads.missing ask.head))
@@ -183,7 +182,7 @@ unfoldable pub earliest_deadline : (s : State) (span : Option Time) → Stepped
 earliest_deadline s span =
     let h = s.tables.heads in
     if not (shaped s.tables) then refuse s 1
-    else elim (deadline h.tips h.requested h.connected (span_or span)) [ none ↦ answering s never_due | some time ↦ answering s (due_at time) ]
+    else elim (deadline h.tips h.requested h.connected (span_or span)) [ None ↦ answering s never_due | Some time ↦ answering s (due_at time) ]
 
 -- ---- restart
 

@@ -1,29 +1,24 @@
 -- What 01 takes for granted: the lowest of the numbers that pass a test, the one that goes before all others, how many pass, which pass, those
 -- that pass put in an order, and one thing after the other.
-use Rattle.std.specs.Prelude.{Bool, true, false, ◌||◌, if◌then◌else◌, List, [], ◌∷◌, ◌++◌, ℕ, zero, suc, ◌+◌, eqb}
-use Rattle.std.proofs.Math.Option.{Option, none, some}
-
-abbrev pub is_some : (o : Option ℕ) → Bool
-is_some none = false
-is_some (some i) = true
+use Rattle.std.specs.Prelude.{Bool, false, ◌||◌, if◌then◌else◌, List, [], ◌∷◌, ◌++◌, ℕ, zero, suc, ◌+◌, eqb, Option, None, Some}
 
 abbrev pub is_at : (o : Option ℕ) (k : ℕ) → Bool
-is_at none k = false
-is_at (some i) k = eqb i k
+is_at None k = false
+is_at (Some i) k = eqb i k
 
 -- the lowest number below n that passes
 unfoldable pub lowest : (test : ℕ → Bool) (n : ℕ) → Option ℕ
-lowest test zero = none
-lowest test (suc n) = elim (lowest test n) [ none ↦ if test n then some n else none | some i ↦ some i ]
+lowest test zero = None
+lowest test (suc n) = elim (lowest test n) [ None ↦ if test n then Some n else None | Some i ↦ Some i ]
 
 -- k is taken where nothing was, or where it goes before what was
 unfoldable pub better : (before : ℕ → ℕ → Bool) (k : ℕ) (was : Option ℕ) → Option ℕ
-better before k none = some k
-better before k (some b) = if before k b then some k else some b
+better before k None = Some k
+better before k (Some b) = if before k b then Some k else Some b
 
 -- of the numbers below n that pass, the one that goes before the others; the lowest of equals
 unfoldable pub best : (test : ℕ → Bool) (before : ℕ → ℕ → Bool) (n : ℕ) → Option ℕ
-best test before zero = none
+best test before zero = None
 best test before (suc n) = if test n then better before n (best test before n) else best test before n
 
 -- how many numbers below n pass

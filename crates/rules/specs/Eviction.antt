@@ -1,6 +1,5 @@
 -- Eviction (01, "Eviction"): which head goes, and which blocks go with it.
-use Rattle.std.specs.Prelude.{Bool, not, ◌&&◌, ◌||◌, List, ℕ, zero, suc, eqb, ltb, if◌then◌else◌}
-use Rattle.std.proofs.Math.Option.{Option, none, some}
+use Rattle.std.specs.Prelude.{Bool, not, ◌&&◌, ◌||◌, List, ℕ, zero, suc, eqb, ltb, if◌then◌else◌, Option, None, Some}
 use Rattle.rules.specs.Kinds.{BlockSlot, HeadSlot}
 use Rattle.rules.specs.Common.{best}
 use Rattle.rules.specs.Hashes.{hash_at, hash_less}
@@ -45,4 +44,4 @@ evict t k = record {
 -- without a victim nothing changes
 unfoldable pub evict_one : (t : Tables) (active_head : BlockSlot) → Tables
 evict_one t active_head =
-    elim (victim t.blocks.hashes t.blocks.sequences t.heads.tips active_head) [ none ↦ t | some k ↦ evict t k ]
+    elim (victim t.blocks.hashes t.blocks.sequences t.heads.tips active_head) [ None ↦ t | Some k ↦ evict t k ]

@@ -1,7 +1,6 @@
 -- Demand 3 (00, and 01 "Lists of calls"): what holds after every list of calls, worked out afresh from the blocks, the
 -- calls and their answers; what hangs under a block (02, S-1), beside what `mark_subtree` lists; and the head screen (02, S-2).
-use Rattle.std.specs.Prelude.{◌≡◌, ◌≢◌, ◌⊎◌, ◌↔◌, Bool, true, not, ◌&&◌, List, [], ◌∷◌, ◌++◌, ℕ, suc, ◌+◌, ◌*◌, ◌%◌, ◌≤◌, ◌<◌, max, eqb, length, get_or, replicate, if◌then◌else◌}
-use Rattle.std.proofs.Math.Option.{Option, none, some}
+use Rattle.std.specs.Prelude.{◌≡◌, ◌≢◌, ◌⊎◌, ◌↔◌, Bool, true, not, ◌&&◌, List, [], ◌∷◌, ◌++◌, ℕ, suc, ◌+◌, ◌*◌, ◌%◌, ◌≤◌, ◌<◌, max, eqb, length, get_or, replicate, if◌then◌else◌, Option, None, Some}
 use Rattle.rules.specs.Kinds.{BlockSlot, HeadSlot, Sequence, Time, Hash}
 use Rattle.rules.specs.Common.{is_at, count_below}
 use Rattle.rules.specs.Hashes.{hash_length, hash_at}
@@ -124,23 +123,23 @@ pub data Promoted (i : BlockSlot) : List Made → Type 0 where
   later : (made : Made) (log : List Made) (promoted : Promoted i log) → Promoted i (made ∷ log)
 
 abbrev pub slot_returned : (answer : Answer) → Option BlockSlot
-slot_returned (refused number) = none
-slot_returned done = none
-slot_returned (slot i) = some i
-slot_returned (freed blocks) = none
-slot_returned (hangs blocks highest) = none
-slot_returned (shown rows) = none
-slot_returned (request head claims missing) = none
-slot_returned none_due = none
-slot_returned (due_at time) = none
-slot_returned never_due = none
+slot_returned (refused number) = None
+slot_returned done = None
+slot_returned (slot i) = Some i
+slot_returned (freed blocks) = None
+slot_returned (hangs blocks highest) = None
+slot_returned (shown rows) = None
+slot_returned (request head claims missing) = None
+slot_returned none_due = None
+slot_returned (due_at time) = None
+slot_returned never_due = None
 
 abbrev pub name_given : (call : Call) → Option Name
-name_given (admit_call given hash previous arrival) = some (record { sequence = given; hash = hash })
-name_given (promote_call i) = none
-name_given (remove_call i) = none
-name_given (timer_call time span) = none
-name_given (restart_call time) = none
+name_given (admit_call given hash previous arrival) = Some (record { sequence = given; hash = hash })
+name_given (promote_call i) = None
+name_given (remove_call i) = None
+name_given (timer_call time span) = None
+name_given (restart_call time) = None
 
 -- the name given by the last accepted admit that returned slot i; `was` where the log has none
 unfoldable pub last_admitted : (i : BlockSlot) (was : Option Name) (log : List Made) → Option Name
@@ -155,12 +154,12 @@ pub data Inserts (s : State) : Call → Tables → Type 0 where
   -- an admitted block without parent: it counts 1
   root : (given : Sequence) (hash previous : Hash) (arrival : Time) (i : BlockSlot)
       → (accepted : (step s (admit_call given hash previous arrival)).answer ≡ slot i)
-      → (no_parent : parent_found s given previous ≡ none)
+      → (no_parent : parent_found s given previous ≡ None)
       → Inserts s (admit_call given hash previous arrival) (one_more (inserted s i given hash previous) i)
   -- one whose parent is no head: it counts 1, and the parent one more
   fork : (given : Sequence) (hash previous : Hash) (arrival : Time) (i p : BlockSlot)
       → (accepted : (step s (admit_call given hash previous arrival)).answer ≡ slot i)
-      → (found : parent_found s given previous ≡ some p) (no_head : slot_of_head s.tables.heads.tips p ≡ none)
+      → (found : parent_found s given previous ≡ Some p) (no_head : slot_of_head s.tables.heads.tips p ≡ None)
       → Inserts s (admit_call given hash previous arrival) (one_more (one_more (inserted s i given hash previous) i) p)
   -- a childless block of a restart: the slots below it have their heads
   again : (now : Time) (i : BlockSlot) (accepted : (step s (restart_call now)).answer ≡ done)
@@ -169,7 +168,7 @@ pub data Inserts (s : State) : Call → Tables → Type 0 where
 
 -- where no head slot is empty there is a victim
 abbrev pub VictimIfFull : (t : Tables) (active_head : BlockSlot) → Type 0
-VictimIfFull t active_head = first_empty t.heads.tips ≡ none → victim t.blocks.hashes t.blocks.sequences t.heads.tips active_head ≢ none
+VictimIfFull t active_head = first_empty t.heads.tips ≡ None → victim t.blocks.hashes t.blocks.sequences t.heads.tips active_head ≢ None
 
 -- a call that looks for a victim finds one
 abbrev pub FindsVictims : (s : State) (call : Call) → Type 0
@@ -209,7 +208,7 @@ pub record Recorded (log : List Made) (s : State) : Type 0 where
   -- bit 0 is set exactly on the slots that accepted promotions named
   pub promoted : (i : BlockSlot) → Active s i ↔ Promoted i log
   -- each occupied slot holds the sequence and hash of the last accepted admit that returned it
-  pub admitted : (i : BlockSlot) → Occupied s i → last_admitted i none log ≡ some (name s i)
+  pub admitted : (i : BlockSlot) → Occupied s i → last_admitted i None log ≡ Some (name s i)
 
 -- of a list of calls from s, to which the log has led
 pub record Promise (log : List Made) (s : State) (calls : List Call) : Type 0 where

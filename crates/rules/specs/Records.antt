@@ -1,9 +1,9 @@
 -- The records (01, "Records"): the two tables as a list a field, how a cell is read, and the fixed empty records.
 use denote.MutBor.{MutBor}
 use denote.Triple.Both.{Both}
-use Rattle.std.specs.Prelude.{Bool, not, ◌&&◌, List, ℕ, ◌+◌, ◌*◌, ◌/◌, ◌%◌, min, eqb, length, get_or, set, replicate, if◌then◌else◌}
+use Rattle.std.specs.Prelude.{Bool, not, ◌&&◌, List, ℕ, ◌+◌, ◌*◌, ◌/◌, ◌%◌, min, eqb, length, get_or, set, replicate, if◌then◌else◌, is_some}
 use Rattle.rules.specs.Kinds.{BlockSlot, HeadSlot, Sequence, Time, Hash}
-use Rattle.rules.specs.Common.{is_some, lowest, count_below}
+use Rattle.rules.specs.Common.{lowest, count_below}
 use Rattle.rules.specs.Hashes.{hash_length, zero_hash, hash_at, put_hash}
 use Rattle.rules.specs.declared.Block.{Block}
 use Rattle.rules.specs.declared.Head.{Head}

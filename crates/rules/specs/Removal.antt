@@ -1,8 +1,7 @@
 -- Removal (01, "Removal"): a subtree is freed, its heads with it, and caches and counts are worked out again.
-use Rattle.std.specs.Prelude.{Bool, true, false, not, ◌&&◌, List, [], ◌∷◌, ℕ, max, min, eqb, set, if◌then◌else◌}
-use Rattle.std.proofs.Math.Option.{Option, none}
+use Rattle.std.specs.Prelude.{Bool, true, false, not, ◌&&◌, List, [], ◌∷◌, ℕ, max, min, eqb, set, if◌then◌else◌, Option, None, is_some}
 use Rattle.rules.specs.Kinds.{BlockSlot, HeadSlot}
-use Rattle.rules.specs.Common.{is_some, is_at, lowest, in_order}
+use Rattle.rules.specs.Common.{is_at, lowest, in_order}
 use Rattle.rules.specs.Records.{Blocks, Heads, Tables, slots_of, parent_at, tip_at, occupied, used, clear, with_counts, with_tips, with_blocks}
 use Rattle.rules.specs.BlockTable.{children, childless, mark_subtree, delete, max_count}
 use Rattle.rules.specs.Caches.{slot_of_head, recompute_heads}
@@ -37,7 +36,7 @@ takes_over parents sequences tips parent =
 -- the lowest head whose tip was freed is the one that moves
 unfoldable pub heir : (parents sequences tips : List ℕ) (deleted : List BlockSlot) (parent : BlockSlot) → Option HeadSlot
 heir parents sequences tips deleted parent =
-    if takes_over parents sequences tips parent then lowest (head_freed tips deleted) (slots_of tips) else none
+    if takes_over parents sequences tips parent then lowest (head_freed tips deleted) (slots_of tips) else None
 
 -- the rest are emptied
 unfoldable pub drop_head : (deleted : List BlockSlot) (moving : Option HeadSlot) (parent : BlockSlot) (k : HeadSlot) (h : Heads) → Heads

@@ -1,6 +1,5 @@
 -- The timer (01, "Timer"): due times, the choice of a head to ask for, and the deadline.
-use Rattle.std.specs.Prelude.{Bool, ◌&&◌, ◌||◌, List, ℕ, ◌+◌, ◌-◌, min, eqb, ltb, leb, set, if◌then◌else◌}
-use Rattle.std.proofs.Math.Option.{Option, none, some}
+use Rattle.std.specs.Prelude.{Bool, ◌&&◌, ◌||◌, List, ℕ, ◌+◌, ◌-◌, min, eqb, ltb, leb, set, if◌then◌else◌, Option, None, Some}
 use Rattle.rules.specs.Kinds.{HeadSlot, Sequence, Time}
 use Rattle.rules.specs.Common.{best}
 use Rattle.rules.specs.Records.{slots_of, sequence_at, tip_at, tail_at, requested_at, occupied, stored}
@@ -11,8 +10,8 @@ abbrev pub default_retry : Time
 default_retry = 60
 
 abbrev pub span_or : (span : Option Time) → Time
-span_or none = default_retry
-span_or (some ticks) = ticks
+span_or None = default_retry
+span_or (Some ticks) = ticks
 
 -- times are 64 bits wide
 abbrev pub max_time : Time
@@ -50,12 +49,12 @@ pub record Ask : Type 0 where
 unfoldable pub ask_at : (sequences tails : List ℕ) (k : HeadSlot) → Option Ask
 ask_at sequences tails k =
     if occupied sequences (tail_at tails k)
-    then some (record { head = k; claims = claimed (sequence_at sequences (tail_at tails k)) })
-    else none
+    then Some (record { head = k; claims = claimed (sequence_at sequences (tail_at tails k)) })
+    else None
 
 unfoldable pub recovery : (hashes sequences tips tails requested connected : List ℕ) (now retry : Time) → Option Ask
 recovery hashes sequences tips tails requested connected now retry =
-    elim (chosen hashes sequences tips requested connected now retry) [ none ↦ none | some k ↦ ask_at sequences tails k ]
+    elim (chosen hashes sequences tips requested connected now retry) [ None ↦ None | Some k ↦ ask_at sequences tails k ]
 
 -- an empty head is written too
 unfoldable pub mark_requested : (requested : List ℕ) (k : HeadSlot) (now : Time) → List ℕ
@@ -69,4 +68,4 @@ due_first tips requested connected retry =
 -- the least due time of stored heads
 unfoldable pub deadline : (tips requested connected : List ℕ) (retry : Time) → Option Time
 deadline tips requested connected retry =
-    elim (due_first tips requested connected retry) [ none ↦ none | some k ↦ some (due (requested_at requested k) retry) ]
+    elim (due_first tips requested connected retry) [ None ↦ None | Some k ↦ Some (due (requested_at requested k) retry) ]

@@ -1,4 +1,6 @@
-// The types that every crate shares: slots and sequences, each its own type, the two records, and the answers.
+// The types that every crate shares: slots and sequences, each its own type, the two records, and what is answered. The tables are lent as
+// slices, a field each, and not as a struct of them: C lends some to be read and others to be written, and through a struct of lent slices
+// no proof splits the two.
 #![tactic(auto)]
 
 ghost use Rattle.std.specs.Prelude.{◌≡◌};
@@ -6,21 +8,21 @@ ghost use Rattle.rules.specs.Records.{empty_block, empty_head};
 
 // A place in the block table; laid out for C, as the record of the active head and those of the head screen hold one.
 #[repr(C)]
-#[derive(Clone, Copy)]
+#[derive(Clone, Copy, PartialEq, Eq)]
 pub struct BlockSlot(pub u32);
 
 // A place in the head table.
-#[derive(Clone, Copy)]
+#[derive(Clone, Copy, PartialEq, Eq)]
 pub struct HeadSlot(pub u32);
 
 // A block's sequence number; laid out for C, as a record of the head screen holds one.
 #[repr(C)]
-#[derive(Clone, Copy)]
+#[derive(Clone, Copy, PartialEq, Eq, PartialOrd, Ord)]
 pub struct Sequence(pub u32);
 
-// Whether a head is connected or stored; laid out for C, as a record of the head screen holds one.
+// Whether a head is connected or stored; laid out for C, as a record of the head screen holds one: four bytes there, which no enum has here.
 #[repr(C)]
-#[derive(Clone, Copy)]
+#[derive(Clone, Copy, PartialEq, Eq)]
 pub struct HeadKind(pub u32);
 
 // No block, no head, and the sequence of an empty slot: one number, and a constant of each type.
@@ -94,62 +96,27 @@ impl Head {
     }
 }
 
-// What bits 1 and 2 of a block's flags say: 0, 1 and 2 in this order; 3 reads as Stored.
+// What bits 1 and 2 of a block's flags say; 3 reads as Stored.
 #[derive(Clone, Copy)]
 pub enum BlockStatus {
-    Stored,
-    Connected,
-    Active,
+    Stored = 0,
+    Connected = 1,
+    Active = 2,
 }
 
-// A block slot, or none.
+// A head in use with its tip and its anchor.
 #[derive(Clone, Copy)]
-pub enum Found {
-    At(BlockSlot),
-    Nothing,
+pub struct UsedHead {
+    pub head: HeadSlot,
+    pub tip: BlockSlot,
+    pub anchor: BlockSlot,
 }
 
-// A head slot, or none.
+// Why a block gets no slot.
 #[derive(Clone, Copy)]
-pub enum FoundHead {
-    At(HeadSlot),
-    Nothing,
-}
-
-// A head in use with its tip and its anchor, or none.
-#[derive(Clone, Copy)]
-pub enum NextHead {
-    At(HeadSlot, BlockSlot, BlockSlot),
-    Nothing,
-}
-
-// The slot of an inserted block, or why it has none.
-#[derive(Clone, Copy)]
-pub enum Inserted {
-    At(BlockSlot),
+pub enum InsertError {
     ReservedSequence,
     Full,
-}
-
-// A block, or none: `there` tells which. Where there is none the block is the empty one.
-#[derive(Clone, Copy)]
-pub struct Got {
-    pub there: bool,
-    pub block: Block,
-}
-
-// The count of a block, or none.
-#[derive(Clone, Copy)]
-pub enum Counted {
-    Count(u8),
-    Nothing,
-}
-
-// The status of a block, or none.
-#[derive(Clone, Copy)]
-pub enum StatusFound {
-    Status(BlockStatus),
-    Nothing,
 }
 
 // Where the parent walk of a tip ends.
@@ -159,47 +126,26 @@ pub enum Located {
     Tail(BlockSlot),
 }
 
-// The retry span of a timer or deadline call.
+// A head to ask for its missing parent, with the sequence that it claims.
 #[derive(Clone, Copy)]
-pub enum Span {
-    Ticks(u64),
-    Unset,
+pub struct Recovery {
+    pub head: HeadSlot,
+    pub claimed: Sequence,
 }
 
-// A head to ask for its missing parent, with the sequence that it claims, or none.
-#[derive(Clone, Copy)]
-pub enum Recovery {
-    Ask(HeadSlot, Sequence),
-    NoneDue,
-}
-
-// The least due time, or none.
-#[derive(Clone, Copy)]
-pub enum Deadline {
-    At(u64),
-    Never,
-}
-
-// Why a call is refused.
+// Why a call is refused, by its number.
 #[derive(Clone, Copy)]
 pub enum Refusal {
-    Shape,
-    HashLength,
-    NoBlock,
-    ReservedSequence,
-    ZeroHash,
-    Known,
-    Full,
-    NotNext,
-    HoldsActive,
-    ShortList,
-}
-
-// The answer of fresh, promote and restart.
-#[derive(Clone, Copy)]
-pub enum Outcome {
-    Done,
-    Refused(Refusal),
+    Shape = 1,
+    HashLength = 2,
+    NoBlock = 3,
+    ReservedSequence = 4,
+    ZeroHash = 5,
+    Known = 6,
+    Full = 7,
+    NotNext = 8,
+    HoldsActive = 9,
+    ShortList = 10,
 }
 
 // The record: the slot of the active head, or NONE_REF.
@@ -209,32 +155,11 @@ pub struct ActiveHead {
     pub slot: BlockSlot,
 }
 
-// The answer of a call that may set the record, and what the record then holds.
-#[derive(Clone, Copy)]
-pub struct Recorded {
-    pub outcome: Outcome,
-    pub active: BlockSlot,
-}
-
-// The answer of admit.
-#[derive(Clone, Copy)]
-pub enum Admitted {
-    Slot(BlockSlot),
-    Refused(Refusal),
-}
-
-// The answer of remove.
-#[derive(Clone, Copy)]
-pub enum Removed {
-    Freed(u32),
-    Refused(Refusal),
-}
-
 // The answer of under: how many blocks hang under a block, itself among them, and the highest sequence among them.
 #[derive(Clone, Copy)]
-pub enum Hanging {
-    Blocks(u32, Sequence),
-    Refused(Refusal),
+pub struct Hanging {
+    pub blocks: u32,
+    pub highest: Sequence,
 }
 
 // A record of the head screen: a head's tip, the tip's sequence, which is NONE_REF where the tip is empty, its kind and its anchor.
@@ -247,32 +172,10 @@ pub struct HeadRow {
     pub anchor: BlockSlot,
 }
 
-// The answer of screen: how many records there are; the records stand beside it.
+// What timer asks for: the parent of a head's tail, by the sequence that the head claims and the hash that it misses.
 #[derive(Clone, Copy)]
-pub enum Screened {
-    Rows(u32),
-    Refused(Refusal),
-}
-
-// The answer of timer; the hash that is asked for stands beside it.
-#[derive(Clone, Copy)]
-pub enum Timed {
-    Request(HeadSlot, Sequence),
-    NoneDue,
-    Refused(Refusal),
-}
-
-// The answer of timer with the hash that is asked for beside it, zeros where nothing is.
-#[derive(Clone, Copy)]
-pub struct TimerAnswer {
-    pub timed: Timed,
+pub struct Request {
+    pub head: HeadSlot,
+    pub claimed: Sequence,
     pub missing: [u8; 32],
-}
-
-// The answer of the deadline call.
-#[derive(Clone, Copy)]
-pub enum DeadlineAnswer {
-    At(u64),
-    Never,
-    Refused(Refusal),
 }

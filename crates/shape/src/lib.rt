@@ -5,6 +5,7 @@ ghost use Rattle.std.specs.Prelude.{◌≡◌, length};
 ghost use Rattle.rules.specs.Records.{blocks_fit, heads_fit, blocks_of, heads_of, tables_of};
 ghost use Rattle.rules.specs.Calls.{shaped};
 
+#[tactic(auto, unfolding(rules::specs::Records::blocks_fit))]
 fn blocks_fit(
     hashes: &[u8],
     parents: &[u32],
@@ -16,24 +17,14 @@ fn blocks_fit(
         (blocks_of hashes.now parents.now sequences.now counts.now flags.now) (length parents.now) }
 {
     let n = parents.len();
-    if hashes.len() / 32 != n {
-        return false;
-    }
-    if hashes.len() % 32 != 0 {
-        return false;
-    }
-    if sequences.len() != n {
-        return false;
-    }
-    if counts.len() != n {
-        return false;
-    }
-    if flags.len() != n {
-        return false;
-    }
-    true
+    hashes.len() / 32 == n
+        && hashes.len() % 32 == 0
+        && sequences.len() == n
+        && counts.len() == n
+        && flags.len() == n
 }
 
+#[tactic(auto, unfolding(rules::specs::Records::heads_fit))]
 fn heads_fit(
     tips: &[u32],
     tails: &[u32],
@@ -46,28 +37,16 @@ fn heads_fit(
         tips.now tails.now missing.now requested.now arrivals.now connected.now) (length tips.now) }
 {
     let m = tips.len();
-    if tails.len() != m {
-        return false;
-    }
-    if missing.len() / 32 != m {
-        return false;
-    }
-    if missing.len() % 32 != 0 {
-        return false;
-    }
-    if requested.len() != m {
-        return false;
-    }
-    if arrivals.len() != m {
-        return false;
-    }
-    if connected.len() != m {
-        return false;
-    }
-    true
+    tails.len() == m
+        && missing.len() / 32 == m
+        && missing.len() % 32 == 0
+        && requested.len() == m
+        && arrivals.len() == m
+        && connected.len() == m
 }
 
 // Whether n, the number of parents, is 1 to 1,024, m, that of tips, is 2 to 64, and the length of every other buffer fits n or m.
+#[tactic(auto, unfolding(rules::specs::Calls::shaped))]
 pub fn is_shaped(
     hashes: &[u8],
     parents: &[u32],
@@ -84,22 +63,8 @@ pub fn is_shaped(
     ensures { result ≡ shaped (tables_of hashes.now parents.now sequences.now counts.now flags.now
         tips.now tails.now missing.now requested.now arrivals.now connected.now) }
 {
-    let n = parents.len();
-    let m = tips.len();
-    if n < 1 {
-        return false;
-    }
-    if 1024 < n {
-        return false;
-    }
-    if m < 2 {
-        return false;
-    }
-    if 64 < m {
-        return false;
-    }
-    if !blocks_fit(hashes, parents, sequences, counts, flags) {
-        return false;
-    }
-    heads_fit(tips, tails, missing, requested, arrivals, connected)
+    (1..=1024).contains(&parents.len())
+        && (2..=64).contains(&tips.len())
+        && blocks_fit(hashes, parents, sequences, counts, flags)
+        && heads_fit(tips, tails, missing, requested, arrivals, connected)
 }

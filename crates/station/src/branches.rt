@@ -9,7 +9,7 @@ ghost use Rattle.rules.specs.Rank.{outranks};
 
 use branch_value::Rank;
 use cells::hash_at;
-use query_numbers::{anchored, found_head, said};
+use query_numbers::{Numbered, anchored, number_or_none};
 use rules::BlockSlot;
 
 // How many heads are in use.
@@ -25,7 +25,7 @@ pub extern "C" fn station_count(tips: &[u32]) -> u32
 pub extern "C" fn station_has_stored_head(tips: &[u32], connected: &[u8]) -> u32
     ensures { result ≡ yes (has_stored_head tips.now connected.now) }
 {
-    said(heads::has_stored_head(tips, connected))
+    heads::has_stored_head(tips, connected).number()
 }
 
 // The lowest head slot with this tip; NONE_REF is none.
@@ -33,7 +33,7 @@ pub extern "C" fn station_has_stored_head(tips: &[u32], connected: &[u8]) -> u32
 pub extern "C" fn station_slot_of_head(tips: &[u32], tip: u32) -> u32
     ensures { result ≡ or_none (slot_of_head tips.now tip) }
 {
-    found_head(heads::slot_of_head(tips, BlockSlot(tip)))
+    number_or_none(heads::slot_of_head(tips, BlockSlot(tip)))
 }
 
 // Where the parent walk from the slot ends: the slot of a tail, or that of a connection with 2^32 added.
@@ -64,17 +64,15 @@ pub extern "C" fn station_outranks(
         (outranks (record { value = value; length = len; hash = hash_at hash.now 0 })
         (record { value = value2; length = len2; hash = hash_at hash2.now 0 })) }
 {
-    let mine = hash_at(hash, 0);
-    let theirs = hash_at(hash2, 0);
     let first = Rank {
         value,
         len,
-        hash: mine,
+        hash: hash_at(hash, 0),
     };
     let second = Rank {
         value: value2,
         len: len2,
-        hash: theirs,
+        hash: hash_at(hash2, 0),
     };
-    said(first.outranks(second))
+    first.outranks(second).number()
 }

@@ -7,16 +7,16 @@ ghost use Rattle.rules.specs.Hashes.{hash_at};
 ghost use Rattle.rules.specs.Records.{blocks_of};
 ghost use Rattle.rules.specs.BlockTable.{find, next_free, find_parent, get, head_ref_count, status_at, mark_subtree, walks_to_active_chain};
 
-use query_numbers::{counted, found, said, status_found};
+use query_numbers::{Numbered, number_or_none};
 use rules::{BlockSlot, Sequence};
 
 fn put_words(words: &mut [u32], parent: u32, sequence: u32, count: u8, flags: u8)
     ensures { words.new ≡ sets words.old 0 (parent ∷ sequence ∷ count ∷ flags ∷ []) }
 {
-    cells::put_word(words, 0, parent);
-    cells::put_word(words, 1, sequence);
-    cells::put_word(words, 2, count as u32);
-    cells::put_word(words, 3, flags as u32);
+    cells::put_cell(words, 0, parent);
+    cells::put_cell(words, 1, sequence);
+    cells::put_cell(words, 2, count as u32);
+    cells::put_cell(words, 3, flags as u32);
 }
 
 // The lowest occupied slot with this sequence and hash; NONE_REF is none.
@@ -24,7 +24,7 @@ fn put_words(words: &mut [u32], parent: u32, sequence: u32, count: u8, flags: u8
 pub extern "C" fn station_find(hashes: &[u8], sequences: &[u32], sequence: u32, hash: &[u8]) -> u32
     ensures { result ≡ or_none (find hashes.now sequences.now sequence (hash_at hash.now 0)) }
 {
-    found(blocks::find(
+    number_or_none(blocks::find(
         hashes,
         sequences,
         Sequence(sequence),
@@ -37,7 +37,7 @@ pub extern "C" fn station_find(hashes: &[u8], sequences: &[u32], sequence: u32, 
 pub extern "C" fn station_next_free_index(sequences: &[u32]) -> u32
     ensures { result ≡ or_none (next_free sequences.now) }
 {
-    found(blocks::next_free_index(sequences))
+    number_or_none(blocks::next_free_index(sequences))
 }
 
 // The lowest slot with the sequence one lower and the previous hash; NONE_REF is none, and sequence 0 has none.
@@ -51,7 +51,7 @@ pub extern "C" fn station_find_parent(
     ensures { result
         ≡ or_none (find_parent hashes.now sequences.now sequence (hash_at previous.now 0)) }
 {
-    found(blocks::find_parent(
+    number_or_none(blocks::find_parent(
         hashes,
         sequences,
         Sequence(sequence),
@@ -76,21 +76,19 @@ pub extern "C" fn station_get(
         (blocks_of hashes.now parents.now sequences.now counts.now flags.now) slot) hash.old words.old result
         hash.new words.new }
 {
-    let got = block_reading::get(hashes, parents, sequences, counts, flags, BlockSlot(slot));
-    if got.there {
-        let block = got.block;
-        let bytes = block.hash;
-        cells::put_hash(hash, 0, bytes);
-        put_words(
-            words,
-            block.parent.0,
-            block.sequence.0,
-            block.count,
-            block.flags,
-        );
-        return 1;
-    }
-    0
+    let Some(block) = block_reading::get(hashes, parents, sequences, counts, flags, BlockSlot(slot))
+    else {
+        return 0;
+    };
+    cells::put_hash(hash, 0, block.hash);
+    put_words(
+        words,
+        block.parent.0,
+        block.sequence.0,
+        block.count,
+        block.flags,
+    );
+    1
 }
 
 // The count of the block in a slot; NONE_REF for an empty or out-of-range slot.
@@ -98,7 +96,7 @@ pub extern "C" fn station_get(
 pub extern "C" fn station_head_ref_count(sequences: &[u32], counts: &[u8], slot: u32) -> u32
     ensures { result ≡ or_none (head_ref_count sequences.now counts.now slot) }
 {
-    counted(block_reading::head_ref_count(sequences, counts, BlockSlot(slot)))
+    number_or_none(block_reading::head_ref_count(sequences, counts, BlockSlot(slot)))
 }
 
 // The block's status, 0 Stored, 1 Connected, 2 Active; NONE_REF for an empty or out-of-range slot.
@@ -106,7 +104,7 @@ pub extern "C" fn station_head_ref_count(sequences: &[u32], counts: &[u8], slot:
 pub extern "C" fn station_status(sequences: &[u32], flags: &[u8], slot: u32) -> u32
     ensures { result ≡ or_none (status_at sequences.now flags.now slot) }
 {
-    status_found(block_reading::status(sequences, flags, BlockSlot(slot)))
+    number_or_none(block_reading::status(sequences, flags, BlockSlot(slot)))
 }
 
 // How many blocks the root's subtree has, 0 where the root is empty; their slots are written in order, as far as the list has room.
@@ -133,5 +131,5 @@ pub extern "C" fn station_walks_to_active_chain(
 ) -> u32
     ensures { result ≡ yes (walks_to_active_chain parents.now sequences.now flags.now start) }
 {
-    said(blocks::walks_to_active_chain(parents, sequences, flags, BlockSlot(start)))
+    blocks::walks_to_active_chain(parents, sequences, flags, BlockSlot(start)).number()
 }

@@ -2,96 +2,25 @@
 ghost use Rattle.std.specs.Prelude.{◌≡◌};
 ghost use Rattle.rules.specs.Records.{tables_of};
 ghost use Rattle.rules.specs.Calls.{state_of, promote as promote_rule, fresh as fresh_rule};
-ghost use Rattle.call_numbers.specs.Numbers.{GivesAndSets};
+ghost use Rattle.rules.specs.Answers.{outcome_said, recorded};
+ghost use Rattle.call_numbers.specs.Numbers.{answer_number, GivesAndSets};
 
-use call_numbers::outcome_number;
+use call_numbers::refusal;
 use fresh_call::fresh;
 use promote_call::promote;
-use rules::{ActiveHead, BlockSlot};
+use rules::{ActiveHead, BlockSlot, Refusal};
 
-// The answer, and what the record then holds.
-#[derive(Clone, Copy)]
-struct Kept {
-    answer: u64,
-    active: BlockSlot,
-}
-
-fn promote_kept(
-    hashes: &[u8],
-    parents: &[u32],
-    sequences: &[u32],
-    counts: &[u8],
-    flags: &mut [u8],
-    tips: &[u32],
-    tails: &mut [u32],
-    missing: &mut [u8],
-    requested: &mut [u64],
-    arrivals: &[u64],
-    connected: &mut [u8],
-    active: BlockSlot,
-    slot: u32,
-) -> Kept
-    ensures { GivesAndSets result.answer result.active.0
-        (tables_of hashes.now parents.now sequences.now counts.now flags.new
-        tips.now tails.new missing.new requested.new arrivals.now connected.new)
-        (promote_rule
-        (state_of (tables_of hashes.now parents.now sequences.now counts.now flags.old
-        tips.now tails.old missing.old requested.old arrivals.now connected.old) active.0)
-        slot) }
+// Keeps what a call gives for the record; 0 is done, and after a refusal, which stands in the upper half, the record holds what it held.
+fn record(answer: Result<BlockSlot, Refusal>, held: &mut ActiveHead) -> u64
+    ensures number { result ≡ answer_number (outcome_said answer) }
+    ensures record { held.new.slot.0 ≡ recorded answer held.old.slot.0 }
 {
-    let recorded = promote(
-        hashes,
-        parents,
-        sequences,
-        counts,
-        flags,
-        tips,
-        tails,
-        missing,
-        requested,
-        arrivals,
-        connected,
-        active,
-        BlockSlot(slot),
-    );
-    let outcome = recorded.outcome;
-    let active = recorded.active;
-    Kept {
-        answer: outcome_number(outcome),
-        active,
-    }
-}
-
-fn fresh_kept(
-    hashes: &mut [u8],
-    parents: &mut [u32],
-    sequences: &mut [u32],
-    counts: &mut [u8],
-    flags: &mut [u8],
-    tips: &mut [u32],
-    tails: &mut [u32],
-    missing: &mut [u8],
-    requested: &mut [u64],
-    arrivals: &mut [u64],
-    connected: &mut [u8],
-    active: BlockSlot,
-) -> Kept
-    ensures { GivesAndSets result.answer result.active.0
-        (tables_of hashes.new parents.new sequences.new counts.new flags.new
-        tips.new tails.new missing.new requested.new arrivals.new connected.new)
-        (fresh_rule
-        (state_of (tables_of hashes.old parents.old sequences.old counts.old flags.old
-        tips.old tails.old missing.old requested.old arrivals.old connected.old) active.0)) }
-{
-    let recorded = fresh(
-        hashes, parents, sequences, counts, flags, tips, tails, missing, requested, arrivals,
-        connected, active,
-    );
-    let outcome = recorded.outcome;
-    let active = recorded.active;
-    Kept {
-        answer: outcome_number(outcome),
-        active,
+    match answer {
+        Ok(active) => {
+            held.slot = active;
+            0
+        }
+        Err(why) => refusal(why),
     }
 }
 
@@ -121,12 +50,22 @@ pub extern "C" fn station_promote(
         held.old.slot.0)
         slot) }
 {
-    let promoted = promote_kept(
-        hashes, parents, sequences, counts, flags, tips, tails, missing, requested, arrivals,
-        connected, held.slot, slot,
+    let promoted = promote(
+        hashes,
+        parents,
+        sequences,
+        counts,
+        flags,
+        tips,
+        tails,
+        missing,
+        requested,
+        arrivals,
+        connected,
+        held.slot,
+        BlockSlot(slot),
     );
-    held.slot = promoted.active;
-    promoted.answer
+    record(promoted, held)
 }
 
 // Empties all slots, all heads and the record; 0 is done, and a refusal in the upper half changes nothing.
@@ -153,10 +92,9 @@ pub extern "C" fn station_fresh(
         tips.old tails.old missing.old requested.old arrivals.old connected.old)
         held.old.slot.0)) }
 {
-    let emptied = fresh_kept(
+    let emptied = fresh(
         hashes, parents, sequences, counts, flags, tips, tails, missing, requested, arrivals,
         connected, held.slot,
     );
-    held.slot = emptied.active;
-    emptied.answer
+    record(emptied, held)
 }

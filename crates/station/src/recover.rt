@@ -51,9 +51,7 @@ pub extern "C" fn station_timer(
         clock,
         span_from(given, span),
     );
-    let timed = answer.timed;
-    let hash = answer.missing;
-    timed_number(timed, hash, claimed, wanted)
+    timed_number(answer, claimed, wanted)
 }
 
 // 1, with the least due time of stored heads in the first place of the list; 0 is never, and a refusal stands in the upper half: these

@@ -4,7 +4,7 @@ ghost use Rattle.rules.specs.Records.{tables_of};
 ghost use Rattle.rules.specs.Calls.{state_of, restart as restart_rule};
 ghost use Rattle.call_numbers.specs.Numbers.{Gives};
 
-use call_numbers::outcome_number;
+use call_numbers::call_number;
 use restart_call::restart;
 use rules::BlockSlot;
 
@@ -33,7 +33,7 @@ pub extern "C" fn station_restart(
         tips.old tails.old missing.old requested.old arrivals.old connected.old) active)
         clock) }
 {
-    outcome_number(restart(
+    call_number(restart(
         hashes,
         parents,
         sequences,

@@ -1,63 +1,34 @@
 // The head screen, whose records are filled into a list that is lent.
-ghost use Rattle.std.specs.Prelude.{◌≡◌, ℕ, length};
+ghost use Rattle.std.specs.Prelude.{◌≡◌, ◌≤◌, ℕ, length};
+ghost use Rattle.std.proofs.lemmas.List.Edits.{sets};
 ghost use Rattle.rules.specs.Records.{tables_of};
-ghost use Rattle.rules.specs.Calls.{state_of, screen as screen_rule};
+ghost use Rattle.rules.specs.Calls.{state_of, max_heads, screen as screen_rule};
 ghost use Rattle.call_numbers.specs.Numbers.{Shows};
-ghost use Rattle.screen_call.specs.Keys.{rows_of};
-ghost use Rattle.station.specs.Rows.{Lists};
+ghost use Rattle.screen_call.specs.Keys.{rows_in};
 
-use call_numbers::screened_number;
-use rules::{HeadRow, Screened};
+use call_numbers::call_number;
+use rules::HeadRow;
 use screen_call::{row_at, screen};
 
-// The answer, and how many records it has.
-#[derive(Clone, Copy)]
-struct Listed {
-    answer: u64,
-    rows: usize,
-}
-
-fn rows(screened: Screened) -> usize
-    ensures { result ≡ rows_of screened }
-{
-    match screened {
-        Screened::Rows(rows) => rows as usize,
-        Screened::Refused(_) => 0,
-    }
-}
-
-fn list_rows(
-    hashes: &[u8],
-    parents: &[u32],
+// The records of so many keys go into the first places of the list.
+#[tactic(auto, using(crate::proofs::Filled::fill_next), unfolding(screen_call::specs::Keys::rows_in))]
+fn fill_rows(
     sequences: &[u32],
-    counts: &[u8],
-    flags: &[u8],
     tips: &[u32],
     tails: &[u32],
-    missing: &[u8],
-    requested: &[u64],
-    arrivals: &[u64],
     connected: &[u8],
-    room: usize,
-    keys: &mut [u64; 64],
-) -> Listed
-    ensures { (active_head : ℕ) → Lists result keys.new
-        (tables_of hashes.now parents.now sequences.now counts.now flags.now
-        tips.now tails.now missing.now requested.now arrivals.now connected.now)
-        (tables_of hashes.now parents.now sequences.now counts.now flags.now
-        tips.now tails.now missing.now requested.now arrivals.now connected.now) room
-        (screen_rule
-        (state_of (tables_of hashes.now parents.now sequences.now counts.now flags.now
-        tips.now tails.now missing.now requested.now arrivals.now connected.now) active_head)
-        room) }
+    keys: &[u64; 64],
+    many: u32,
+    rows: &mut [HeadRow],
+)
+    requires few { many ≤ max_heads }
+    requires fits { many ≤ length rows.old }
+    ensures { rows.new
+        ≡ sets rows.old 0
+        (rows_in sequences.now tips.now tails.now connected.now keys.now many) }
 {
-    let screened = screen(
-        hashes, parents, sequences, counts, flags, tips, tails, missing, requested, arrivals,
-        connected, room, keys,
-    );
-    Listed {
-        answer: screened_number(screened),
-        rows: rows(screened),
+    for i in 0..many as usize {
+        rows[i] = row_at(sequences, tips, tails, connected, keys[i]);
     }
 }
 
@@ -87,7 +58,7 @@ pub extern "C" fn station_screen(
         (length rows.old)) }
 {
     let mut keys = [0u64; 64];
-    let listed = list_rows(
+    let screened = screen(
         hashes,
         parents,
         sequences,
@@ -102,11 +73,7 @@ pub extern "C" fn station_screen(
         rows.len(),
         &mut keys,
     );
-    let n = listed.rows;
-    let mut i = 0;
-    while i < n {
-        rows[i] = row_at(sequences, tips, tails, connected, keys[i]);
-        i += 1;
-    }
-    listed.answer
+    let many = screened.unwrap_or(0);
+    fill_rows(sequences, tips, tails, connected, &keys, many, rows);
+    call_number(screened)
 }

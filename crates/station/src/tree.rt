@@ -5,7 +5,7 @@ ghost use Rattle.rules.specs.Calls.{state_of, admit as admit_rule, remove as rem
 ghost use Rattle.call_numbers.specs.Numbers.{Gives, Hangs};
 
 use admit_call::admit;
-use call_numbers::{admitted_number, hanging_number, removed_number};
+use call_numbers::{call_number, hanging_number};
 use remove_call::remove;
 use rules::{BlockSlot, Sequence};
 use under_call::under;
@@ -38,7 +38,7 @@ pub extern "C" fn station_admit(
         tips.old tails.old missing.old requested.old arrivals.old connected.old) active)
         sequence hash.now previous.now arrival) }
 {
-    admitted_number(admit(
+    call_number(admit(
         hashes,
         parents,
         sequences,
@@ -82,7 +82,7 @@ pub extern "C" fn station_remove(
         tips.old tails.old missing.old requested.old arrivals.old connected.old) active_head)
         root) }
 {
-    removed_number(remove(
+    call_number(remove(
         hashes,
         parents,
         sequences,

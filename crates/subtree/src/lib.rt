@@ -1,99 +1,108 @@
-// The blocks of a subtree, in one pass: what a slot's walk has told is remembered in a byte, so that no later walk goes on from there.
+// The blocks of a subtree, in one pass: whether a slot's walk reaches the root is remembered, so that no later walk goes on from there.
 // Whether a listed block is active.
 #![tactic(auto)]
 
-ghost use Rattle.std.specs.Prelude.{◌≡◌, ◌<◌, eqb, length};
+ghost use Rattle.std.specs.Prelude.{◌≡◌, ◌<◌, length, get_or, set, Some, None};
 ghost use Rattle.std.proofs.lemmas.List.Edits.{sets};
 ghost use Rattle.rules.specs.Records.{slots_of};
 ghost use Rattle.rules.specs.BlockTable.{reaches, in_subtree, mark_subtree};
+ghost use Rattle.rules.specs.Answers.{slot_found};
 ghost use Rattle.subtree.specs.Active.{any_active};
 ghost use Rattle.subtree.specs.Known.{above as above_rule, told, at_once, Right};
 
 use blocks::{is_occupied, is_on_active_chain};
-use cells::{byte_at, put_byte, put_word, slots, word_at};
+use cells::{cell_at, put_cell, slots};
 use rules::BlockSlot;
 
-const REACHES: u8 = 1;
+// Whether the slot's walk reaches the root, where that is remembered.
+fn known_at(known: &[Option<bool>], slot: BlockSlot) -> Option<bool>
+    ensures { result ≡ get_or known.now slot.0 None }
+{
+    known.get(slot.0 as usize).copied().flatten()
+}
 
-const MISSES: u8 = 2;
+fn keep_known(known: &mut [Option<bool>], slot: BlockSlot, reaches: bool)
+    ensures { known.new ≡ set known.old slot.0 (Some reaches) }
+{
+    let at = slot.0 as usize;
+    if at < known.len() {
+        known[at] = Some(reaches);
+    }
+}
 
-// Where the walk goes from here; NONE_REF where it ends.
+// Where the walk goes from here, if it goes on.
+#[tactic(auto, unfolding(crate::specs::Known::above))]
 fn above(
     parents: &[u32],
     sequences: &[u32],
     root: BlockSlot,
-    known: &[u8],
+    known: &[Option<bool>],
     slot: BlockSlot,
-) -> BlockSlot
-    ensures { result.0 ≡ above_rule parents.now sequences.now root.0 known.now slot.0 }
+) -> Option<BlockSlot>
+    ensures { slot_found result ≡ above_rule parents.now sequences.now root.0 known.now slot.0 }
 {
-    if slot.0 == root.0 {
-        return BlockSlot::NONE_REF;
+    if slot == root || known_at(known, slot).is_some() || !is_occupied(sequences, slot) {
+        return None;
     }
-    if byte_at(known, slot.0) != 0 {
-        return BlockSlot::NONE_REF;
+    let parent = BlockSlot(cell_at(parents, slot.0));
+    if parent == BlockSlot::NONE_REF {
+        None
+    } else {
+        Some(parent)
     }
-    if !is_occupied(sequences, slot) {
-        return BlockSlot::NONE_REF;
-    }
-    BlockSlot(word_at(parents, slot.0))
 }
 
 // What the slot tells where a walk ends.
-fn told_at(root: BlockSlot, known: &[u8], slot: BlockSlot) -> u8
+#[tactic(auto, unfolding(crate::specs::Known::told))]
+fn told_at(root: BlockSlot, known: &[Option<bool>], slot: BlockSlot) -> bool
     ensures { result ≡ told root.0 known.now slot.0 }
 {
-    if slot.0 == root.0 {
-        return REACHES;
-    }
-    let byte = byte_at(known, slot.0);
-    if byte == 0 {
-        return MISSES;
-    }
-    byte
+    slot == root || known_at(known, slot).unwrap_or(false)
 }
 
-// What is told of an occupied slot without a walk; 0 where neither it nor its parent is known.
-fn told_at_once(parents: &[u32], root: BlockSlot, known: &[u8], slot: BlockSlot) -> u8
+// What is told of an occupied slot without a walk, where it or its parent is known.
+#[tactic(auto, unfolding(crate::specs::Known::at_once))]
+fn told_at_once(
+    parents: &[u32],
+    root: BlockSlot,
+    known: &[Option<bool>],
+    slot: BlockSlot,
+) -> Option<bool>
     ensures { result ≡ at_once parents.now root.0 known.now slot.0 }
 {
-    let byte = byte_at(known, slot.0);
-    if byte != 0 {
-        return byte;
+    let own = known_at(known, slot);
+    if own.is_some() {
+        return own;
     }
-    if slot.0 == root.0 {
-        return REACHES;
+    if slot == root {
+        return Some(true);
     }
-    let parent = word_at(parents, slot.0);
-    if parent == BlockSlot::NONE_REF.0 {
-        return MISSES;
+    let parent = BlockSlot(cell_at(parents, slot.0));
+    if parent == BlockSlot::NONE_REF {
+        return Some(false);
     }
-    byte_at(known, parent)
+    known_at(known, parent)
 }
 
 fn verdict(
     parents: &[u32],
     sequences: &[u32],
     root: BlockSlot,
-    known: &[u8],
+    known: &[Option<bool>],
     start: BlockSlot,
-) -> u8
+) -> bool
     ensures { Right parents.now sequences.now root.0 known.now
         → start.0 < slots_of sequences.now
-        → reaches parents.now sequences.now root.0 (slots_of sequences.now) start.0 ≡ eqb result 1 }
+        → reaches parents.now sequences.now root.0 (slots_of sequences.now) start.0 ≡ result }
 {
-    let n = slots(sequences);
     let mut current = start;
-    let mut tries: u32 = 0;
-    while tries < n {
-        let next = above(parents, sequences, root, known, current);
-        if next.0 == BlockSlot::NONE_REF.0 {
-            return told_at(root, known, current);
+    for _ in 0..slots(sequences) {
+        match above(parents, sequences, root, known, current) {
+            Some(next) => current = next,
+            None => return told_at(root, known, current),
         }
-        current = next;
-        tries += 1;
     }
-    MISSES
+    false
 }
 
 // Every slot of the walk gets the verdict.
@@ -101,34 +110,32 @@ fn remember(
     parents: &[u32],
     sequences: &[u32],
     root: BlockSlot,
-    known: &mut [u8],
+    known: &mut [Option<bool>],
     start: BlockSlot,
-    byte: u8,
+    verdict: bool,
 )
     ensures { Right parents.now sequences.now root.0 known.old
         → start.0 < slots_of sequences.now
-        → reaches parents.now sequences.now root.0 (slots_of sequences.now) start.0 ≡ eqb byte 1
+        → reaches parents.now sequences.now root.0 (slots_of sequences.now) start.0 ≡ verdict
         → Right parents.now sequences.now root.0 known.new }
 {
-    let n = slots(sequences);
     let mut current = start;
-    let mut tries: u32 = 0;
-    while tries < n {
+    for _ in 0..slots(sequences) {
         let next = above(parents, sequences, root, known, current);
-        put_byte(known, current.0, byte);
-        if next.0 == BlockSlot::NONE_REF.0 {
-            return;
+        keep_known(known, current, verdict);
+        match next {
+            Some(next) => current = next,
+            None => return,
         }
-        current = next;
-        tries += 1;
     }
 }
 
+#[tactic(auto, unfolding(rules::specs::BlockTable::in_subtree))]
 fn is_under(
     parents: &[u32],
     sequences: &[u32],
     root: BlockSlot,
-    known: &mut [u8],
+    known: &mut [Option<bool>],
     slot: BlockSlot,
 ) -> bool
     ensures { Right parents.now sequences.now root.0 known.old
@@ -139,42 +146,39 @@ fn is_under(
     if !is_occupied(sequences, slot) {
         return false;
     }
-    let told = told_at_once(parents, root, known, slot);
-    if told != 0 {
-        put_byte(known, slot.0, told);
-        return told == REACHES;
+    if let Some(told) = told_at_once(parents, root, known, slot) {
+        keep_known(known, slot, told);
+        return told;
     }
-    let byte = verdict(parents, sequences, root, known, slot);
-    remember(parents, sequences, root, known, slot, byte);
-    byte == REACHES
+    let reaches = verdict(parents, sequences, root, known, slot);
+    remember(parents, sequences, root, known, slot, reaches);
+    reaches
 }
 
 fn mark_known(
     parents: &[u32],
     sequences: &[u32],
     root: BlockSlot,
-    known: &mut [u8],
+    known: &mut [Option<bool>],
     out: &mut [u32],
 ) -> u32
     ensures { Right parents.now sequences.now root.0 known.old
         → (result ≡ length (mark_subtree parents.now sequences.now root.0))
         × (out.new ≡ sets out.old 0 (mark_subtree parents.now sequences.now root.0)) }
 {
-    let n = slots(sequences);
     let mut count: u32 = 0;
-    let mut i: u32 = 0;
-    while i < n {
+    for i in 0..slots(sequences) {
         if is_under(parents, sequences, root, known, BlockSlot(i)) {
-            put_word(out, count, i);
+            put_cell(out, count, i);
             count += 1;
         }
-        i += 1;
     }
     count
 }
 
-// Writes the slots into `out` and gives their number; a slot that `out` has no room for is left out. Slots past the last byte
-// are not remembered, which costs time alone.
+// Writes the slots into `out` and gives their number; a slot that `out` has no room for is left out. Slots past the last
+// place are not remembered, which costs time alone.
+#[tactic(auto, unfolding(rules::specs::BlockTable::mark_subtree))]
 pub fn mark_subtree(parents: &[u32], sequences: &[u32], root: BlockSlot, out: &mut [u32]) -> u32
     ensures { (result ≡ length (mark_subtree parents.now sequences.now root.0))
         × (out.new ≡ sets out.old 0 (mark_subtree parents.now sequences.now root.0)) }
@@ -182,7 +186,7 @@ pub fn mark_subtree(parents: &[u32], sequences: &[u32], root: BlockSlot, out: &m
     if !is_occupied(sequences, root) {
         return 0;
     }
-    let mut known = [0u8; 1024];
+    let mut known = [None; 1024];
     mark_known(parents, sequences, root, &mut known, out)
 }
 
@@ -190,12 +194,7 @@ pub fn mark_subtree(parents: &[u32], sequences: &[u32], root: BlockSlot, out: &m
 pub fn any_active(flags: &[u8], listed: &[u32]) -> bool
     ensures { result ≡ any_active flags.now listed.now }
 {
-    let mut at: usize = 0;
-    while at < listed.len() {
-        if is_on_active_chain(flags, BlockSlot(listed[at])) {
-            return true;
-        }
-        at += 1;
-    }
-    false
+    listed
+        .iter()
+        .any(|slot| is_on_active_chain(flags, BlockSlot(*slot)))
 }

@@ -7,7 +7,7 @@ ghost use Rattle.rules.specs.Admission.{outgrown, refresh_outgrown, refresh_tail
 
 use all_caches::refresh_head;
 use blocks::is_occupied;
-use cells::{slots, word_at};
+use cells::{cell_at, slots};
 use heads::is_stored;
 use rules::{BlockSlot, HeadSlot};
 
@@ -22,14 +22,10 @@ fn has_outgrown(
     ensures { result ≡ outgrown parents.now sequences.now tips.now tails.now
         connected.now head.0 }
 {
-    if !is_stored(tips, connected, head) {
-        return false;
-    }
-    let tail = word_at(tails, head.0);
-    if !is_occupied(sequences, BlockSlot(tail)) {
-        return false;
-    }
-    word_at(parents, tail) != BlockSlot::NONE_REF.0
+    let tail = BlockSlot(cell_at(tails, head.0));
+    is_stored(tips, connected, head)
+        && is_occupied(sequences, tail)
+        && BlockSlot(cell_at(parents, tail.0)) != BlockSlot::NONE_REF
 }
 
 fn refresh_outgrown(
@@ -51,7 +47,7 @@ fn refresh_outgrown(
         (heads_of tips.now tails.old missing.old requested.old arrivals.now connected.old) }
 {
     if has_outgrown(parents, sequences, tips, tails, connected, head) {
-        let tip = BlockSlot(word_at(tips, head.0));
+        let tip = BlockSlot(cell_at(tips, head.0));
         refresh_head(
             parents, sequences, flags, tips, tails, missing, requested, connected, tip,
         );
@@ -77,9 +73,7 @@ pub fn refresh_tails(
         ≡ refresh_tails (tables_of hashes.now parents.now sequences.now counts.now flags.now
         tips.now tails.old missing.old requested.old arrivals.now connected.old) }
 {
-    let m = slots(tips);
-    let mut k: u32 = 0;
-    while k < m {
+    for k in 0..slots(tips) {
         refresh_outgrown(
             hashes,
             parents,
@@ -94,6 +88,5 @@ pub fn refresh_tails(
             connected,
             HeadSlot(k),
         );
-        k += 1;
     }
 }

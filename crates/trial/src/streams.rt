@@ -1,7 +1,6 @@
 // Bytes read and written by the system's calls, which may be cut short or come back with nothing done.
 ghost use Rattle.std.specs.Prelude.{IfOk, ◌≤◌, length};
 
-use cells::least;
 use std::io::{Cursor, ErrorKind, Read, Write};
 use std::time::{Clock, Duration};
 use std::{io, thread};
@@ -67,7 +66,7 @@ fn reason(message: &str) -> &str {
 pub fn fail(rt: &HostRuntime, what: &[u8], error: &io::Error) {
     let mut said = Cursor::new([0u8; 256]);
     let _whole = write!(said, "{error}");
-    let length = least(said.position() as usize, 256);
+    let length = (said.position() as usize).min(256);
     let bytes = said.into_inner();
     let message = str::from_utf8(&bytes[..length]).unwrap_or("");
     let mut to = rt.stderr();

@@ -26,7 +26,7 @@ pub fn answer(
     arrivals: &mut [u64],
     connected: &mut [u8],
     active: BlockSlot,
-    line: Line,
+    line: Option<Line>,
     out: &mut [u8],
     at: usize,
 ) -> Told
@@ -39,38 +39,38 @@ pub fn answer(
         result.renewed out.new result.at }
 {
     match line {
-        Line::Fresh(_, _) => tell_fresh(
+        Some(Line::Fresh(_, _)) => tell_fresh(
             hashes, parents, sequences, counts, flags, tips, tails, missing, requested, arrivals,
             connected, active, out, at,
         ),
-        Line::Admit(sequence, hash, previous, arrival) => tell_admit(
+        Some(Line::Admit(sequence, hash, previous, arrival)) => tell_admit(
             hashes, parents, sequences, counts, flags, tips, tails, missing, requested, arrivals,
             connected, active, sequence, hash, previous, arrival, out, at,
         ),
-        Line::Promote(slot) => tell_promote(
+        Some(Line::Promote(slot)) => tell_promote(
             hashes, parents, sequences, counts, flags, tips, tails, missing, requested, arrivals,
             connected, active, slot, out, at,
         ),
-        Line::Remove(slot) => tell_remove(
+        Some(Line::Remove(slot)) => tell_remove(
             hashes, parents, sequences, counts, flags, tips, tails, missing, requested, arrivals,
             connected, active, slot, out, at,
         ),
-        Line::Under(slot) => tell_under(
+        Some(Line::Under(slot)) => tell_under(
             hashes, parents, sequences, counts, flags, tips, tails, missing, requested, arrivals,
             connected, active, slot, out, at,
         ),
-        Line::Screen => tell_screen(
+        Some(Line::Screen) => tell_screen(
             hashes, parents, sequences, counts, flags, tips, tails, missing, requested, arrivals,
             connected, active, out, at,
         ),
-        Line::Timer(clock, retry) => tell_timer(
+        Some(Line::Timer(clock, retry)) => tell_timer(
             hashes, parents, sequences, counts, flags, tips, tails, missing, requested, arrivals,
             connected, active, clock, retry, out, at,
         ),
-        Line::Restart(clock) => tell_restart(
+        Some(Line::Restart(clock)) => tell_restart(
             hashes, parents, sequences, counts, flags, tips, tails, missing, requested, arrivals,
             connected, active, clock, out, at,
         ),
-        Line::Unread => tell_unread(active, out, at),
+        None => tell_unread(active, out, at),
     }
 }

@@ -1,6 +1,6 @@
 -- How many records a line's answer shows: a screen's no more than a table may have heads, any other none.
 use mathlib.Core.List.{List}
-use mathlib.Core.Option.{Option, none, some}
+use Rattle.std.specs.Prelude.{Option, None, Some}
 use Prim.Native.Nat.{ℕ, ◌≤◌}
 use native.Mathlib.Omega.{arith}
 use lib.Dec.{ltb}
@@ -16,7 +16,7 @@ use Rattle.rules.proofs.Placed.{below-few}
 use Rattle.rules.proofs.Refusals.{admit?}
 use Rattle.rules.proofs.Kept.Shaped.{shaped-shape}
 use Rattle.trial_lines.specs.declared.Line.{Line}
-use Rattle.trial_lines.specs.declared.Line.TheVariants.{Fresh, Admit, Promote, Remove, Under, Screen, Timer, Restart, Unread}
+use Rattle.trial_lines.specs.declared.Line.TheVariants.{Fresh, Admit, Promote, Remove, Under, Screen, Timer, Restart}
 use Rattle.trial_calls.specs.Calling.{called}
 
 abbrev pub rows_shown : Answer → ℕ
@@ -92,8 +92,8 @@ under-few s root =
 
 asked-few : (s : State) (now : ℕ) (ask : Option Ask) → Few (asked s now ask)
 unfolding asked
-asked-few s now none = omega arith
-asked-few s now (some ask) = omega arith
+asked-few s now None = omega arith
+asked-few s now (Some ask) = omega arith
 
 timer-few : (s : State) (now : ℕ) (span : Option ℕ) → Few (timer s now span)
 unfolding timer
@@ -110,14 +110,15 @@ restart-few s now = split (shaped s.tables) (λ e. rw e (omega arith)) (λ e. rw
 
 -- ---- every line
 
-pub called-few : (s : State) (line : Line) → rows_shown (called s line).answer ≤ max_heads
+pub called-few : (s : State) (line : Option Line) → rows_shown (called s line).answer ≤ max_heads
 unfolding called step
-called-few s (Fresh n m) = fresh-few s
-called-few s (Admit sequence hash previous arrival) = admit-few s sequence.0 (replicate hash_length hash) (replicate hash_length previous) arrival
-called-few s (Promote block) = promote-few s block.0
-called-few s (Remove block) = remove-few s block.0
-called-few s (Under block) = under-few s block.0
-called-few s Screen = screen-few s (heads_in s.tables)
-called-few s (Timer now retry) = timer-few s now (some retry)
-called-few s (Restart now) = restart-few s now
-called-few s Unread = omega arith
+called-few s (Some (Fresh n m)) = fresh-few s
+called-few s (Some (Admit sequence hash previous arrival)) =
+    admit-few s sequence.0 (replicate hash_length hash) (replicate hash_length previous) arrival
+called-few s (Some (Promote block)) = promote-few s block.0
+called-few s (Some (Remove block)) = remove-few s block.0
+called-few s (Some (Under block)) = under-few s block.0
+called-few s (Some Screen) = screen-few s (heads_in s.tables)
+called-few s (Some (Timer now retry)) = timer-few s now (Some retry)
+called-few s (Some (Restart now)) = restart-few s now
+called-few s None = omega arith

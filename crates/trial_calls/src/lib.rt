@@ -4,19 +4,18 @@
 
 mod screen;
 
-ghost use Rattle.std.specs.Prelude.{◌≡◌, not, ℕ};
+ghost use Rattle.std.specs.Prelude.{ℕ, Some, None};
 ghost use Rattle.rules.specs.Records.{Tables, tables_of};
-ghost use Rattle.rules.specs.Answers.{outcome_said};
 ghost use Rattle.rules.specs.Calls.{state_of};
-ghost use Rattle.trial_lines.specs.declared.Line.TheVariants.{Fresh, Admit, Promote, Remove, Under, Screen, Timer, Restart, Unread};
-ghost use Rattle.trial_calls.specs.Calling.{is_refused, Tells};
+ghost use Rattle.trial_lines.specs.declared.Line.TheVariants.{Fresh, Admit, Promote, Remove, Under, Screen, Timer, Restart};
+ghost use Rattle.trial_calls.specs.Calling.{Tells};
 
 use admit_call::admit;
 use fresh_call::fresh;
 use promote_call::promote;
 use remove_call::remove;
 use restart_call::restart;
-use rules::{BlockSlot, Outcome, Sequence, Span};
+use rules::{BlockSlot, Sequence};
 use screen::screen_lines;
 use screen_call::screen;
 use timer_call::timer;
@@ -32,15 +31,6 @@ pub struct Told {
     pub active: BlockSlot,
     pub renewed: bool,
     pub at: usize,
-}
-
-fn is_done(outcome: Outcome) -> bool
-    ensures { result ≡ not (is_refused (outcome_said outcome)) }
-{
-    match outcome {
-        Outcome::Done => true,
-        Outcome::Refused(_) => false,
-    }
 }
 
 // The tables are made fresh as they come, whatever sizes the line names.
@@ -63,21 +53,19 @@ pub fn tell_fresh(
     ensures { (n m : ℕ)
         → Tells (state_of (tables_of hashes.old parents.old sequences.old counts.old flags.old
         tips.old tails.old missing.old requested.old arrivals.old connected.old) active.0)
-        (Fresh n m) out.old at
+        (Some (Fresh n m)) out.old at
         (state_of (tables_of hashes.new parents.new sequences.new counts.new flags.new
         tips.new tails.new missing.new requested.new arrivals.new connected.new) result.active.0)
         result.renewed out.new result.at }
 {
-    let recorded = fresh(
+    let answer = fresh(
         hashes, parents, sequences, counts, flags, tips, tails, missing, requested, arrivals,
         connected, active,
     );
-    let outcome = recorded.outcome;
-    let left = recorded.active;
     Told {
-        active: left,
-        renewed: is_done(outcome),
-        at: fresh_line(out, at, outcome),
+        active: answer.unwrap_or(active),
+        renewed: answer.is_ok(),
+        at: fresh_line(out, at, answer),
     }
 }
 
@@ -105,7 +93,7 @@ pub fn tell_admit(
     ensures { Tells
         (state_of (tables_of hashes.old parents.old sequences.old counts.old flags.old
         tips.old tails.old missing.old requested.old arrivals.old connected.old) active.0)
-        (Admit sequence hash previous arrival) out.old at
+        (Some (Admit sequence hash previous arrival)) out.old at
         (state_of (tables_of hashes.new parents.new sequences.new counts.new flags.new
         tips.new tails.new missing.new requested.new arrivals.new connected.new) result.active.0)
         result.renewed out.new result.at }
@@ -144,21 +132,19 @@ pub fn tell_promote(
     ensures { Tells
         (state_of (tables_of hashes.now parents.now sequences.now counts.now flags.old
         tips.now tails.old missing.old requested.old arrivals.now connected.old) active.0)
-        (Promote slot) out.old at
+        (Some (Promote slot)) out.old at
         (state_of (tables_of hashes.now parents.now sequences.now counts.now flags.new
         tips.now tails.new missing.new requested.new arrivals.now connected.new) result.active.0)
         result.renewed out.new result.at }
 {
-    let recorded = promote(
+    let answer = promote(
         hashes, parents, sequences, counts, flags, tips, tails, missing, requested, arrivals,
         connected, active, slot,
     );
-    let outcome = recorded.outcome;
-    let left = recorded.active;
     Told {
-        active: left,
+        active: answer.unwrap_or(active),
         renewed: false,
-        at: promote_line(out, at, outcome, slot),
+        at: promote_line(out, at, answer, slot),
     }
 }
 
@@ -183,7 +169,7 @@ pub fn tell_remove(
     ensures { Tells
         (state_of (tables_of hashes.old parents.old sequences.old counts.old flags.old
         tips.old tails.old missing.old requested.old arrivals.old connected.old) active.0)
-        (Remove slot) out.old at
+        (Some (Remove slot)) out.old at
         (state_of (tables_of hashes.new parents.new sequences.new counts.new flags.new
         tips.new tails.new missing.new requested.new arrivals.new connected.new) result.active.0)
         result.renewed out.new result.at }
@@ -220,7 +206,7 @@ pub fn tell_under(
     ensures { Tells
         (state_of (tables_of hashes.now parents.now sequences.now counts.now flags.now
         tips.now tails.now missing.now requested.now arrivals.now connected.now) active.0)
-        (Under slot) out.old at
+        (Some (Under slot)) out.old at
         (state_of (tables_of hashes.now parents.now sequences.now counts.now flags.now
         tips.now tails.now missing.now requested.now arrivals.now connected.now) result.active.0)
         result.renewed out.new result.at }
@@ -256,7 +242,7 @@ pub fn tell_screen(
     ensures { Tells
         (state_of (tables_of hashes.now parents.now sequences.now counts.now flags.now
         tips.now tails.now missing.now requested.now arrivals.now connected.now) active.0)
-        Screen out.old at
+        (Some Screen) out.old at
         (state_of (tables_of hashes.now parents.now sequences.now counts.now flags.now
         tips.now tails.now missing.now requested.now arrivals.now connected.now) result.active.0)
         result.renewed out.new result.at }
@@ -306,7 +292,7 @@ pub fn tell_timer(
     ensures { Tells
         (state_of (tables_of hashes.now parents.now sequences.now counts.now flags.now
         tips.now tails.now missing.now requested.old arrivals.now connected.now) active.0)
-        (Timer clock retry) out.old at
+        (Some (Timer clock retry)) out.old at
         (state_of (tables_of hashes.now parents.now sequences.now counts.now flags.now
         tips.now tails.now missing.now requested.new arrivals.now connected.now) result.active.0)
         result.renewed out.new result.at }
@@ -324,14 +310,12 @@ pub fn tell_timer(
         arrivals,
         connected,
         clock,
-        Span::Ticks(retry),
+        Some(retry),
     );
-    let timed = answer.timed;
-    let hash = answer.missing;
     Told {
         active,
         renewed: false,
-        at: timer_line(out, at, timed, hash),
+        at: timer_line(out, at, answer),
     }
 }
 
@@ -356,7 +340,7 @@ pub fn tell_restart(
     ensures { Tells
         (state_of (tables_of hashes.old parents.old sequences.old counts.old flags.old
         tips.old tails.old missing.old requested.old arrivals.old connected.old) active.0)
-        (Restart clock) out.old at
+        (Some (Restart clock)) out.old at
         (state_of (tables_of hashes.new parents.new sequences.new counts.new flags.new
         tips.new tails.new missing.new requested.new arrivals.new connected.new) result.active.0)
         result.renewed out.new result.at }
@@ -375,7 +359,7 @@ pub fn tell_restart(
 // An unread line calls nothing and prints `?`.
 pub fn tell_unread(active: BlockSlot, out: &mut [u8], at: usize) -> Told
     ensures { (t : Tables)
-        → Tells (state_of t active.0) Unread out.old at (state_of t result.active.0) result.renewed out.new result.at }
+        → Tells (state_of t active.0) None out.old at (state_of t result.active.0) result.renewed out.new result.at }
 {
     Told {
         active,

@@ -6,8 +6,8 @@ ghost use Rattle.screen_call.specs.Keys.{rows_in, rows_of};
 ghost use Rattle.trial_lines.specs.Writing.{place, rows_lines};
 ghost use Rattle.trial_lines.specs.Said.{said};
 
-use query_numbers::refusal_number;
-use rules::Screened;
+use query_numbers::Numbered;
+use rules::Refusal;
 use screen_call::{key_at, row_at};
 use trial_lines::lines::{number_line, row_line};
 
@@ -32,11 +32,9 @@ fn show_rows(
         (rows_in sequences.now tips.now tails.now connected.now keys rows)))) }
 {
     let mut next = at;
-    let mut i = 0;
-    while i < rows {
+    for i in 0..rows {
         let row = row_at(sequences, tips, tails, connected, key_at(keys, i));
         next = row_line(out, next, row);
-        i += 1;
     }
     next
 }
@@ -48,7 +46,7 @@ pub fn screen_lines(
     tails: &[u32],
     connected: &[u8],
     keys: [u64; 64],
-    answer: Screened,
+    answer: Result<u32, Refusal>,
     out: &mut [u8],
     at: usize,
 ) -> usize
@@ -67,7 +65,7 @@ pub fn screen_lines(
         (rows_of answer)))))) }
 {
     match answer {
-        Screened::Rows(rows) => show_rows(
+        Ok(rows) => show_rows(
             sequences,
             tips,
             tails,
@@ -77,6 +75,6 @@ pub fn screen_lines(
             out,
             at,
         ),
-        Screened::Refused(why) => number_line(out, at, b'E', refusal_number(why)),
+        Err(why) => number_line(out, at, b'E', why.number()),
     }
 }

@@ -1,5 +1,6 @@
 -- The front of an array, lent and come back as long as it went: the front is what came back, and what stands behind is as it was.
 use mathlib.Core.Path.{◌≡◌, sym, ap, ◌∙◌}
+use Rattle.std.specs.Prelude.{Option}
 use mathlib.Core.Bool.{Bool}
 use mathlib.Core.List.{List, [], ◌++◌, append-nil}
 use Prim.Native.Nat.{ℕ, ◌*◌, ◌-◌, min}
@@ -93,7 +94,7 @@ module _ {n m : ℕ} {t lent back u : Tables} (l : Lent n m t lent back u) where
   unfolding behind
   rest-is = same_tables (behind n m u) (behind n m t) (record { hashes = l.hashes.rest; parents = l.parents.rest; sequences = l.sequences.rest; counts = l.counts.rest; flags = l.flags.rest; tips = l.tips.rest; tails = l.tails.rest; missing = l.missing.rest; requested = l.requested.rest; arrivals = l.arrivals.rest; connected = l.connected.rest })
 
-pub tells-front : {n m : ℕ} {t lent back u : Tables} {a b : ℕ} {line : Line} {out written : List ℕ} {at next : ℕ} {renewed : Bool}
+pub tells-front : {n m : ℕ} {t lent back u : Tables} {a b : ℕ} {line : Option Line} {out written : List ℕ} {at next : ℕ} {renewed : Bool}
     → Tells (state_of lent a) line out at (state_of back b) renewed written next → Lent n m t lent back u
     → TellsFront n m t a line out at u b renewed written next
 tells-front tell l = (rw (← lent_is l, back_is l) tell, rest-is l)

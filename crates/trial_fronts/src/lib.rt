@@ -1,4 +1,4 @@
-// The fronts of lent arrays, as many slots as are in use, lent on: to a line's call, and to the listing.
+// The fronts of lent arrays, as many slots as are in use, lent on: to a line's call, and to the listing. The arrays of a trial, all as one.
 #![tactic(auto)]
 
 ghost use Rattle.std.specs.Prelude.{◌≡◌, length, take};
@@ -6,9 +6,8 @@ ghost use Rattle.std.proofs.lemmas.List.Edits.{sets};
 ghost use Rattle.rules.specs.Records.{tables_of};
 ghost use Rattle.trial_lines.specs.Writing.{place};
 ghost use Rattle.trial_listing.specs.Listing.{listing_of};
-ghost use Rattle.trial_fronts.specs.Fronts.{Cut, TellsFront};
+ghost use Rattle.trial_fronts.specs.Fronts.{array_blocks, array_heads, Sized, tables_in, Cut, TellsFront};
 
-use cells::least;
 use rules::BlockSlot;
 use trial_answer::answer;
 use trial_calls::Told;
@@ -53,17 +52,17 @@ fn cut(
     let blocks = n as usize;
     let heads = m as usize;
     Ends {
-        hashes: least(blocks * 32, hashes.len()),
-        parents: least(blocks, parents.len()),
-        sequences: least(blocks, sequences.len()),
-        counts: least(blocks, counts.len()),
-        flags: least(blocks, flags.len()),
-        tips: least(heads, tips.len()),
-        tails: least(heads, tails.len()),
-        missing: least(heads * 32, missing.len()),
-        requested: least(heads, requested.len()),
-        arrivals: least(heads, arrivals.len()),
-        connected: least(heads, connected.len()),
+        hashes: (blocks * 32).min(hashes.len()),
+        parents: blocks.min(parents.len()),
+        sequences: blocks.min(sequences.len()),
+        counts: blocks.min(counts.len()),
+        flags: blocks.min(flags.len()),
+        tips: heads.min(tips.len()),
+        tails: heads.min(tails.len()),
+        missing: (heads * 32).min(missing.len()),
+        requested: heads.min(requested.len()),
+        arrivals: heads.min(arrivals.len()),
+        connected: heads.min(connected.len()),
     }
 }
 
@@ -83,7 +82,7 @@ pub fn answer_front(
     n: u32,
     m: u32,
     active: BlockSlot,
-    line: Line,
+    line: Option<Line>,
     out: &mut [u8],
     at: usize,
 ) -> Told
@@ -145,13 +144,13 @@ pub fn list_front(
 {
     let blocks = n as usize;
     let heads = m as usize;
-    let parent_end = least(blocks, parents.len());
-    let sequence_end = least(blocks, sequences.len());
-    let count_end = least(blocks, counts.len());
-    let flag_end = least(blocks, flags.len());
-    let tip_end = least(heads, tips.len());
-    let tail_end = least(heads, tails.len());
-    let connected_end = least(heads, connected.len());
+    let parent_end = blocks.min(parents.len());
+    let sequence_end = blocks.min(sequences.len());
+    let count_end = blocks.min(counts.len());
+    let flag_end = blocks.min(flags.len());
+    let tip_end = heads.min(tips.len());
+    let tail_end = heads.min(tails.len());
+    let connected_end = heads.min(connected.len());
     listing(
         &parents[0..parent_end],
         &sequences[0..sequence_end],
@@ -163,4 +162,87 @@ pub fn list_front(
         out,
         at,
     )
+}
+
+// The arrays have one slot more than a table may have, so that it is the call that refuses a larger size.
+#[derive(Drop)]
+pub struct Arrays {
+    pub hashes: [u8; 32800],
+    pub parents: [u32; 1025],
+    pub sequences: [u32; 1025],
+    pub counts: [u8; 1025],
+    pub flags: [u8; 1025],
+    pub tips: [u32; 65],
+    pub tails: [u32; 65],
+    pub missing: [u8; 2080],
+    pub requested: [u64; 65],
+    pub arrivals: [u64; 65],
+    pub connected: [u8; 65],
+}
+
+impl Arrays {
+    // The call of a line on the first n block slots and the first m head slots, as many as there are.
+    pub fn answer(
+        &mut self,
+        n: u32,
+        m: u32,
+        active: BlockSlot,
+        line: Option<Line>,
+        out: &mut [u8],
+        at: usize,
+    ) -> Told
+        ensures tells { TellsFront n m (tables_in self.old) active.0 line out.old at
+            (tables_in self.new) result.active.0 result.renewed out.new result.at }
+        ensures sized { Sized array_blocks array_heads (tables_in self.old) }
+    {
+        answer_front(
+            &mut self.hashes,
+            &mut self.parents,
+            &mut self.sequences,
+            &mut self.counts,
+            &mut self.flags,
+            &mut self.tips,
+            &mut self.tails,
+            &mut self.missing,
+            &mut self.requested,
+            &mut self.arrivals,
+            &mut self.connected,
+            n,
+            m,
+            active,
+            line,
+            out,
+            at,
+        )
+    }
+
+    // The listing of the first n block slots and the first m head slots, as many as there are.
+    pub fn list(&self, n: u32, m: u32, out: &mut [u8], at: usize) -> usize
+        ensures lists { (out.new
+            ≡ sets out.old at
+            (listing_of (take n self.now.parents) (take n self.now.sequences) (take n self.now.counts)
+            (take n self.now.flags) (take m self.now.tips) (take m self.now.tails)
+            (take m self.now.connected)))
+            × (result
+            ≡ place (length out.old) at
+            (length
+            (listing_of (take n self.now.parents) (take n self.now.sequences) (take n self.now.counts)
+            (take n self.now.flags) (take m self.now.tips) (take m self.now.tails)
+            (take m self.now.connected)))) }
+        ensures sized { Sized array_blocks array_heads (tables_in self.now) }
+    {
+        list_front(
+            &self.parents,
+            &self.sequences,
+            &self.counts,
+            &self.flags,
+            &self.tips,
+            &self.tails,
+            &self.connected,
+            n,
+            m,
+            out,
+            at,
+        )
+    }
 }

@@ -2,7 +2,7 @@
 use mathlib.Core.Path.{◌≡◌, refl, ◌∙◌}
 use mathlib.Core.Bool.{true, false}
 use mathlib.Core.List.{List, [], ◌∷◌, ◌++◌}
-use mathlib.Core.Option.{some}
+use Rattle.std.specs.Prelude.{Some}
 use Prim.Native.Nat.{ℕ, zero, suc, ◌+◌, ◌*◌, ◌-◌, ◌/◌, ◌^◌, ◌<◌, ◌≤◌}
 use native.Mathlib.Omega.{arith}
 use borrow.Author.Tests.{le-leb, ltb-true}
@@ -55,9 +55,9 @@ digits_value (suc places) n h =
     rw e (value-append 0 (digits_in places (n / 10)) (digit n) ∙ rw s (omega arith)))
 
 -- in a field, which has fewer places
-pub word-read-back : (n : ℕ) → n ≤ word_most → number word_most (digits_in 10 n) ≡ some n
+pub word-read-back : (n : ℕ) → n ≤ word_most → number word_most (digits_in 10 n) ≡ Some n
 word-read-back n h = number_is word_most (digits_in 10 n) n (digits-some 9 n) (digits-all 10 n) (digits_value 10 n (omega arith)) h
 
-pub read_back : (n : ℕ) → n ≤ time_most → number time_most (digits n) ≡ some n
+pub read_back : (n : ℕ) → n ≤ time_most → number time_most (digits n) ≡ Some n
 unfolding digits
 read_back n h = number_is time_most (digits_in 20 n) n (digits-some 19 n) (digits-all 20 n) (digits_value 20 n (omega arith)) h

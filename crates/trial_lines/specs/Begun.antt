@@ -1,8 +1,7 @@
 -- What has come of a line (01, "One trial whole"), and how the start of a buffer holds it.
-use Rattle.std.specs.Prelude.{Bool, true, false, List, [], ◌∷◌, ◌++◌, ℕ, ltb, leb, length, take, if◌then◌else◌}
+use Rattle.std.specs.Prelude.{Bool, true, false, List, [], ◌∷◌, ◌++◌, ℕ, ltb, leb, length, take, if◌then◌else◌, Option, None}
 use Rattle.trial_lines.specs.Reading.{parse}
 use Rattle.trial_lines.specs.declared.Line.{Line}
-use Rattle.trial_lines.specs.declared.Line.TheVariants.{Unread}
 
 pub data Begun : Type 0 where
   so_far : (bytes : List ℕ) → Begun
@@ -21,9 +20,9 @@ has_begun (so_far []) = false
 has_begun (so_far (byte ∷ bytes)) = true
 has_begun too_long = true
 
-unfoldable pub line_begun : (begun : Begun) → Line
+unfoldable pub line_begun : (begun : Begun) → Option Line
 line_begun (so_far bytes) = parse bytes
-line_begun too_long = Unread
+line_begun too_long = None
 
 -- more bytes than the buffer has are too many
 unfoldable pub begun_of : (line : List ℕ) (begun : ℕ) → Begun

@@ -1,4 +1,3 @@
-pub mod Answers
 pub mod Begun
 pub mod Reading
 pub mod Said

@@ -7,8 +7,9 @@ pub fn join(line: &mut [u8], begun: usize, byte: u8) -> usize
         × (result ≡ min (begun + 1) (length line.old + 1)) }
 {
     if line.len() <= begun {
-        return line.len() + 1;
+        line.len() + 1
+    } else {
+        line[begun] = byte;
+        begun + 1
     }
-    line[begun] = byte;
-    begun + 1
 }

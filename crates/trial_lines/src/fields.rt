@@ -6,45 +6,31 @@ ghost use Rattle.trial_lines.specs.Reading.{field_length, first as first_rule, r
 pub fn field_length(line: &[u8]) -> usize
     ensures { result ≡ field_length line.now }
 {
-    let mut i = 0;
-    while i < line.len() {
-        if line[i] == b' ' {
-            return i;
-        }
-        i += 1;
-    }
-    i
+    line.iter()
+        .position(|byte| *byte == b' ')
+        .unwrap_or(line.len())
 }
 
 // The bytes before the first space; all where there is none.
-pub fn first<'a>(line: &'a [u8]) -> &'a [u8]
+#[tactic(auto, using(crate::proofs::Bytes::field_short))]
+pub fn first(line: &[u8]) -> &[u8]
     ensures { result.now ≡ first_rule line.now }
 {
-    let end = field_length(line);
-    if end <= line.len() {
-        return &line[0..end];
-    }
-    &line[0..0]
+    &line[0..field_length(line)]
 }
 
 // What follows the first space; nothing where there is none.
-pub fn rest<'a>(line: &'a [u8]) -> &'a [u8]
+#[tactic(auto, using(crate::proofs::Bytes::field_short))]
+pub fn rest(line: &[u8]) -> &[u8]
     ensures { result.now ≡ rest_rule line.now }
 {
-    let end = field_length(line);
-    if end < line.len() {
-        let start = end + 1;
-        return &line[start..];
-    }
-    &line[0..0]
+    line.get(field_length(line) + 1..).unwrap_or(&[])
 }
 
 // The first field if it is one byte, else 0.
+#[tactic(auto, using(crate::proofs::Bytes::field_short))]
 pub fn letter(line: &[u8]) -> u8
     ensures { result ≡ letter_rule line.now }
 {
-    if field_length(line) == 1 {
-        return cells::byte_at(line, 0);
-    }
-    0
+    if field_length(line) == 1 { line[0] } else { 0 }
 }

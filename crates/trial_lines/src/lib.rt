@@ -28,26 +28,4 @@ pub enum Line {
     Screen,
     Timer(u64, u64),
     Restart(u64),
-    Unread,
-}
-
-// A time, or none.
-#[derive(Clone, Copy)]
-pub enum Time {
-    Value(u64),
-    Unread,
-}
-
-// A number of 32 bits, or none.
-#[derive(Clone, Copy)]
-pub enum Word {
-    Value(u32),
-    Unread,
-}
-
-// The byte of a hash or the value of a digit, or none.
-#[derive(Clone, Copy)]
-pub enum Byte {
-    Value(u8),
-    Unread,
 }

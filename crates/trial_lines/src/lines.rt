@@ -1,10 +1,10 @@
 // Lines of output, each with its end, from a place of a lent buffer on. What is returned is the place after it.
-ghost use Rattle.std.specs.Prelude.{◌≡◌, length, if◌then◌else◌};
+ghost use Rattle.std.specs.Prelude.{◌≡◌, length, get_or, if◌then◌else◌};
 ghost use Rattle.std.proofs.lemmas.List.Edits.{sets};
 ghost use Rattle.trial_lines.specs.Writing.{place, number_line, hanging_line, row_line, request_line, none_due_line, letter_line, block_line, head_line};
 
 use crate::text::{put, put_field, put_hex, put_reference};
-use rules::{BlockSlot, HeadKind, HeadRow, HeadSlot, Sequence};
+use rules::{BlockSlot, Hanging, HeadKind, HeadRow, HeadSlot, Request, Sequence};
 
 fn pick(test: bool, yes: u8, no: u8) -> u8
     ensures { result ≡ (if test then yes else no) }
@@ -32,13 +32,13 @@ pub fn letter_line(out: &mut [u8], at: usize, letter: u8) -> usize
 }
 
 // How much hangs under a block: the number of blocks, and the highest sequence among them.
-pub fn hanging_line(out: &mut [u8], at: usize, blocks: u32, highest: Sequence) -> usize
-    ensures { (out.new ≡ sets out.old at (hanging_line blocks highest.0))
-        × (result ≡ place (length out.old) at (length (hanging_line blocks highest.0))) }
+pub fn hanging_line(out: &mut [u8], at: usize, hanging: Hanging) -> usize
+    ensures { (out.new ≡ sets out.old at (hanging_line hanging.blocks hanging.highest.0))
+        × (result ≡ place (length out.old) at (length (hanging_line hanging.blocks hanging.highest.0))) }
 {
     let a = put(out, at, b'U');
-    let b = put_field(out, a, blocks);
-    let c = put_field(out, b, highest.0);
+    let b = put_field(out, a, hanging.blocks);
+    let c = put_field(out, b, hanging.highest.0);
     put(out, c, b'\n')
 }
 
@@ -51,25 +51,21 @@ pub fn row_line(out: &mut [u8], at: usize, row: HeadRow) -> usize
     let b = put_reference(out, a, row.tip.0);
     let c = put_reference(out, b, row.sequence.0);
     let d = put(out, c, b' ');
-    let e = put(
-        out,
-        d,
-        pick(row.kind.0 == HeadKind::CONNECTED.0, b'C', b'S'),
-    );
+    let e = put(out, d, pick(row.kind == HeadKind::CONNECTED, b'C', b'S'));
     let f = put_reference(out, e, row.anchor.0);
     put(out, f, b'\n')
 }
 
-// A timer's request: the head, the claimed sequence, and the hash by its byte.
-pub fn request_line(out: &mut [u8], at: usize, head: HeadSlot, claimed: Sequence, hash: u8) -> usize
-    ensures { (out.new ≡ sets out.old at (request_line head.0 claimed.0 hash))
-        × (result ≡ place (length out.old) at (length (request_line head.0 claimed.0 hash))) }
+// A timer's request: the head, the claimed sequence, and the missing hash by its first byte.
+pub fn request_line(out: &mut [u8], at: usize, request: Request) -> usize
+    ensures { (out.new ≡ sets out.old at (request_line request.head.0 request.claimed.0 (get_or request.missing 0 0)))
+        × (result ≡ place (length out.old) at (length (request_line request.head.0 request.claimed.0 (get_or request.missing 0 0)))) }
 {
     let a = put(out, at, b'T');
-    let b = put_field(out, a, head.0);
-    let c = put_field(out, b, claimed.0);
+    let b = put_field(out, a, request.head.0);
+    let c = put_field(out, b, request.claimed.0);
     let d = put(out, c, b' ');
-    let e = put_hex(out, d, hash);
+    let e = put_hex(out, d, request.missing[0]);
     put(out, e, b'\n')
 }
 

@@ -1,121 +1,66 @@
 // Fields as numbers: decimal, of 64 and of 32 bits, and two lower-case hexadecimal digits.
-ghost use Rattle.std.specs.Prelude.{◌≡◌, ◌+◌, ◌*◌, ◌-◌, leb};
-ghost use Rattle.trial_lines.specs.Reading.{is_digit, all_digits, number, hex_digit, hash_byte, time_most, word_most};
-ghost use Rattle.trial_lines.specs.Answers.{time_read, word_read, byte_read};
-
-use crate::{Byte, Time, Word};
-use cells::byte_at;
-
-fn is_digit(byte: u8) -> bool
-    ensures { result ≡ is_digit byte }
-{
-    if byte < 48 {
-        return false;
-    }
-    byte <= 57
-}
-
-fn value(byte: u8) -> u64
-    ensures { result ≡ byte - 48 }
-{
-    if byte < 48 {
-        return 0;
-    }
-    (byte - 48) as u64
-}
-
-// Whether a number with one digit more is no greater than the most.
-fn fits(n: u64, digit: u64, most: u64) -> bool
-    ensures { result ≡ leb (n * 10 + digit) most }
-{
-    if most / 10 < n {
-        return false;
-    }
-    digit <= most - n * 10
-}
+ghost use Rattle.std.specs.Prelude.{◌≡◌};
+ghost use Rattle.trial_lines.specs.Reading.{all_digits, number, hex_digit, hash_byte, time_most, word_most};
 
 // Whether every byte is a decimal digit.
+#[tactic(auto, unfolding(crate::specs::Reading::all_digits))]
 pub fn all_digits(bytes: &[u8]) -> bool
     ensures { result ≡ all_digits bytes.now }
 {
-    let mut i = 0;
-    while i < bytes.len() {
-        if !is_digit(bytes[i]) {
-            return false;
-        }
-        i += 1;
-    }
-    true
+    bytes.iter().all(u8::is_ascii_digit)
 }
 
 // One decimal digit or more, of a value no greater than the most; anything else is unread.
-pub fn read_number(bytes: &[u8], most: u64) -> Time
-    ensures { time_read result ≡ number most bytes.now }
+#[tactic(auto, using(crate::proofs::Bytes::values), unfolding(crate::specs::Reading::number))]
+pub fn read_number(bytes: &[u8], most: u64) -> Option<u64>
+    ensures { result ≡ number most bytes.now }
 {
-    if bytes.len() == 0 {
-        return Time::Unread;
+    if bytes.is_empty() || !all_digits(bytes) {
+        return None;
     }
     let mut n: u64 = 0;
-    let mut i = 0;
-    while i < bytes.len() {
-        let byte = bytes[i];
-        if !is_digit(byte) {
-            return Time::Unread;
-        }
-        let digit = value(byte);
-        if !fits(n, digit, most) {
-            return Time::Unread;
-        }
-        n = n * 10 + digit;
-        i += 1;
+    for byte in bytes {
+        let digit = byte.saturating_sub(b'0') as u64;
+        n = n.checked_mul(10)?.checked_add(digit)?;
     }
-    Time::Value(n)
+    if n <= most { Some(n) } else { None }
 }
 
 // A decimal number of at most 64 bits; anything else is unread.
-pub fn read_time(bytes: &[u8]) -> Time
-    ensures { time_read result ≡ number time_most bytes.now }
+pub fn read_time(bytes: &[u8]) -> Option<u64>
+    ensures { result ≡ number time_most bytes.now }
 {
     read_number(bytes, u64::MAX)
 }
 
 // A decimal number of at most 32 bits; anything else is unread.
-pub fn read_word(bytes: &[u8]) -> Word
-    ensures { word_read result ≡ number word_most bytes.now }
+#[tactic(auto, unfolding(crate::specs::Reading::number))]
+pub fn read_word(bytes: &[u8]) -> Option<u32>
+    ensures { result ≡ number word_most bytes.now }
 {
-    match read_number(bytes, 4294967295) {
-        Time::Value(n) => Word::Value(n as u32),
-        Time::Unread => Word::Unread,
-    }
+    let n = read_number(bytes, u32::MAX as u64)?;
+    Some(n as u32)
 }
 
-fn hex_digit(byte: u8) -> Byte
-    ensures { byte_read result ≡ hex_digit byte }
+fn hex_digit(byte: u8) -> Option<u8>
+    ensures { result ≡ hex_digit byte }
 {
-    if is_digit(byte) {
-        return Byte::Value(byte - 48);
+    match byte {
+        b'0'..=b'9' => Some(byte - 48),
+        b'a'..=b'f' => Some(byte - 87),
+        _ => None,
     }
-    if byte < 97 {
-        return Byte::Unread;
-    }
-    if 102 < byte {
-        return Byte::Unread;
-    }
-    Byte::Value(byte - 87)
 }
 
 // The byte that two lower-case hexadecimal digits give; anything else is unread.
-pub fn read_hash(bytes: &[u8]) -> Byte
-    ensures { byte_read result ≡ hash_byte bytes.now }
+#[tactic(auto, unfolding(crate::specs::Reading::hash_byte))]
+pub fn read_hash(bytes: &[u8]) -> Option<u8>
+    ensures { result ≡ hash_byte bytes.now }
 {
     if bytes.len() != 2 {
-        return Byte::Unread;
+        return None;
     }
-    let Byte::Value(high) = hex_digit(byte_at(bytes, 0)) else {
-        return Byte::Unread;
-    };
-    let Byte::Value(low) = hex_digit(byte_at(bytes, 1)) else {
-        return Byte::Unread;
-    };
-    Byte::Value(high * 16 + low)
+    let high = hex_digit(bytes[0])?;
+    let low = hex_digit(bytes[1])?;
+    Some(high * 16 + low)
 }

@@ -7,15 +7,17 @@ ghost use Rattle.trial_lines.specs.Writing.{place, digit as digit_rule, digits_i
 use rules::BlockSlot;
 
 // One byte.
+#[tactic(auto, unfolding(crate::specs::Writing::place))]
 pub fn put(out: &mut [u8], at: usize, byte: u8) -> usize
     ensures { (out.new ≡ sets out.old at (byte ∷ []))
         × (result ≡ place (length out.old) at 1) }
 {
     if at < out.len() {
         out[at] = byte;
-        return at + 1;
+        at + 1
+    } else {
+        at
     }
-    at
 }
 
 // A text.
@@ -24,10 +26,8 @@ pub fn put_text(out: &mut [u8], at: usize, text: &[u8]) -> usize
         × (result ≡ place (length out.old) at (length text.now)) }
 {
     let mut next = at;
-    let mut i = 0;
-    while i < text.len() {
-        next = put(out, next, text[i]);
-        i += 1;
+    for byte in text {
+        next = put(out, next, *byte);
     }
     next
 }
@@ -54,6 +54,7 @@ fn put_digits(out: &mut [u8], at: usize, n: u64, places: u32) -> usize
 }
 
 // A number in decimal digits, without leading zeros.
+#[tactic(auto, unfolding(crate::specs::Writing::digits))]
 pub fn put_number(out: &mut [u8], at: usize, n: u64) -> usize
     ensures { (out.new ≡ sets out.old at (digits n))
         × (result ≡ place (length out.old) at (length (digits n))) }

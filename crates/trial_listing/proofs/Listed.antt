@@ -1,52 +1,34 @@
 -- Lines put one after the other are the listing, and a listing has at most 96 bytes a slot.
 use mathlib.Core.Path.{◌≡◌}
-use mathlib.Core.Bool.{Bool, true, false}
+use mathlib.Core.Bool.{false}
 use mathlib.Core.List.{List}
 use Prim.Native.Nat.{ℕ, zero, suc, ◌+◌, ◌*◌, ◌≤◌}
 use native.Mathlib.Numerals.{add-one}
 use native.Mathlib.Omega.{arith}
 use lib.ListN.{length, length-append}
-use Rattle.rules.specs.Records.{slots_of, sequence_at, parent_at, count_at, tip_at, tail_at, occupied, used, active, is_connected}
+use Rattle.rules.specs.Records.{slots_of, occupied, used}
 use Rattle.rules.proofs.Splits.{split}
-use Rattle.trial_lines.specs.Writing.{place, block_line, head_line}
+use Rattle.trial_lines.specs.Writing.{place}
 use Rattle.trial_lines.proofs.Places.{Put, put-none, put_then}
 use Rattle.trial_lines.proofs.Short.{block-short, head-short}
 use Rattle.trial_listing.specs.Listing.{block_shown, head_shown, lines_below, blocks_shown, heads_shown, listing_of}
 
 -- ---- one slot
 
-module _ (parents sequences counts flags : List ℕ) (slot : ℕ) where
-  pub block_none : (l : List ℕ) (at : ℕ) → occupied sequences slot ≡ false → Put l at (block_shown parents sequences counts flags slot) l at
-  unfolding block_shown
-  block_none l at e = rw e (put-none l at)
+pub block_none : (parents sequences counts flags l : List ℕ) (slot at : ℕ) → occupied sequences slot ≡ false
+    → Put l at (block_shown parents sequences counts flags slot) l at
+unfolding block_shown
+block_none parents sequences counts flags l slot at e = rw e (put-none l at)
 
-  pub block-some : (l m : List ℕ) (at r : ℕ) (sequence parent count : ℕ) (on : Bool)
-      → Put l at (block_line slot sequence parent count on) m r
-      → occupied sequences slot ≡ true
-      → sequence ≡ sequence_at sequences slot → parent ≡ parent_at parents slot → count ≡ count_at counts slot → on ≡ active flags slot
-      → Put l at (block_shown parents sequences counts flags slot) m r
-  unfolding block_shown
-  block-some l m at r sequence parent count on put e s p k a = rw e (rw (s, p, k, a) at put)
+block-shown-short : (parents sequences counts flags : List ℕ) (slot : ℕ) → length (block_shown parents sequences counts flags slot) ≤ 96
+unfolding block_shown
+block-shown-short parents sequences counts flags slot =
+    split (occupied sequences slot) (λ e. rw e (block-short _ _ _ _ _)) (λ e. rw e (omega arith))
 
-  block-shown-short : length (block_shown parents sequences counts flags slot) ≤ 96
-  unfolding block_shown
-  block-shown-short = split (occupied sequences slot) (λ e. rw e (block-short _ _ _ _ _)) (λ e. rw e (omega arith))
-
-module _ (tips tails connected : List ℕ) (head : ℕ) where
-  pub head-none : (l : List ℕ) (at : ℕ) → used tips head ≡ false → Put l at (head_shown tips tails connected head) l at
-  unfolding head_shown
-  head-none l at e = rw e (put-none l at)
-
-  pub head-some : (l m : List ℕ) (at r : ℕ) (tip : ℕ) (on : Bool) (anchor : ℕ)
-      → Put l at (head_line head tip on anchor) m r
-      → used tips head ≡ true → tip ≡ tip_at tips head → on ≡ is_connected connected head → anchor ≡ tail_at tails head
-      → Put l at (head_shown tips tails connected head) m r
-  unfolding head_shown
-  head-some l m at r tip on anchor put e t k a = rw e (rw (t, k, a) at put)
-
-  head-shown-short : length (head_shown tips tails connected head) ≤ 96
-  unfolding head_shown
-  head-shown-short = split (used tips head) (λ e. rw e (head-short _ _ _ _)) (λ e. rw e (omega arith))
+head-shown-short : (tips tails connected : List ℕ) (head : ℕ) → length (head_shown tips tails connected head) ≤ 96
+unfolding head_shown
+head-shown-short tips tails connected head =
+    split (used tips head) (λ e. rw e (head-short _ _ _ _)) (λ e. rw e (omega arith))
 
 -- ---- slot after slot
 
@@ -73,18 +55,21 @@ module _ (parents sequences counts flags tips tails connected : List ℕ) where
       → Put m r (heads_shown tips tails connected) o s
       → Put l at (listing_of parents sequences counts flags tips tails connected) o s
   unfolding listing_of
-  blocks-then-heads l m o at r s b h = put_then l m o (blocks_shown parents sequences counts flags) (heads_shown tips tails connected) at r s b h
+  blocks-then-heads l m o at r s b h =
+      put_then l m o (blocks_shown parents sequences counts flags) (heads_shown tips tails connected) at r s b h
 
   pub listing-short : length (listing_of parents sequences counts flags tips tails connected) ≤ 96 * (length sequences + length tips)
   unfolding listing_of slots_of
   listing-short =
-      let b = lines-short (block_shown parents sequences counts flags) (slots_of sequences) (block-shown-short parents sequences counts flags) in
+      let b = lines-short (block_shown parents sequences counts flags) (slots_of sequences)
+      (block-shown-short parents sequences counts flags) in
       let h = lines-short (head_shown tips tails connected) (slots_of tips) (head-shown-short tips tails connected) in
       simp length-append (omega arith)
 
   -- a buffer with that room has it whole
   pub listing-fits : (room at : ℕ)
       → at + 96 * (length sequences + length tips) ≤ room
-      → place room at (length (listing_of parents sequences counts flags tips tails connected)) ≡ at + length (listing_of parents sequences counts flags tips tails connected)
+      → place room at (length (listing_of parents sequences counts flags tips tails connected))
+      ≡ at + length (listing_of parents sequences counts flags tips tails connected)
   unfolding place
   listing-fits room at h = omega (arith, listing-short)

@@ -8,11 +8,12 @@ ghost use Rattle.trial_lines.specs.Writing.{place};
 ghost use Rattle.trial_listing.specs.Listing.{block_shown, head_shown, blocks_shown, heads_shown, listing_of};
 
 use blocks::{is_occupied, is_on_active_chain};
-use cells::{byte_at, slots, word_at};
+use cells::{cell_at, slots};
 use heads::{is_connected, is_used};
 use rules::{BlockSlot, HeadSlot, Sequence};
 use trial_lines::lines::{block_line, head_line};
 
+#[tactic(auto, unfolding(crate::specs::Listing::block_shown, trial_lines::specs::Writing::place))]
 fn show_block(
     parents: &[u32],
     sequences: &[u32],
@@ -30,18 +31,18 @@ fn show_block(
         (length (block_shown parents.now sequences.now counts.now flags.now
         slot.0))) }
 {
-    if is_occupied(sequences, slot) {
-        return block_line(
-            out,
-            at,
-            slot,
-            Sequence(word_at(sequences, slot.0)),
-            BlockSlot(word_at(parents, slot.0)),
-            byte_at(counts, slot.0),
-            is_on_active_chain(flags, slot),
-        );
+    if !is_occupied(sequences, slot) {
+        return at;
     }
-    at
+    block_line(
+        out,
+        at,
+        slot,
+        Sequence(cell_at(sequences, slot.0)),
+        BlockSlot(cell_at(parents, slot.0)),
+        cell_at(counts, slot.0),
+        is_on_active_chain(flags, slot),
+    )
 }
 
 fn show_blocks(
@@ -59,16 +60,14 @@ fn show_blocks(
         ≡ place (length out.old) at
         (length (blocks_shown parents.now sequences.now counts.now flags.now))) }
 {
-    let n = slots(sequences);
     let mut next = at;
-    let mut i: u32 = 0;
-    while i < n {
+    for i in 0..slots(sequences) {
         next = show_block(parents, sequences, counts, flags, out, next, BlockSlot(i));
-        i += 1;
     }
     next
 }
 
+#[tactic(auto, unfolding(crate::specs::Listing::head_shown, trial_lines::specs::Writing::place))]
 fn show_head(
     tips: &[u32],
     tails: &[u32],
@@ -83,17 +82,17 @@ fn show_head(
         ≡ place (length out.old) at
         (length (head_shown tips.now tails.now connected.now head.0))) }
 {
-    if is_used(tips, head) {
-        return head_line(
-            out,
-            at,
-            head,
-            BlockSlot(word_at(tips, head.0)),
-            is_connected(connected, head),
-            BlockSlot(word_at(tails, head.0)),
-        );
+    if !is_used(tips, head) {
+        return at;
     }
-    at
+    head_line(
+        out,
+        at,
+        head,
+        BlockSlot(cell_at(tips, head.0)),
+        is_connected(connected, head),
+        BlockSlot(cell_at(tails, head.0)),
+    )
 }
 
 fn show_heads(tips: &[u32], tails: &[u32], connected: &[u8], out: &mut [u8], at: usize) -> usize
@@ -103,12 +102,9 @@ fn show_heads(tips: &[u32], tails: &[u32], connected: &[u8], out: &mut [u8], at:
         ≡ place (length out.old) at
         (length (heads_shown tips.now tails.now connected.now))) }
 {
-    let m = slots(tips);
     let mut next = at;
-    let mut k: u32 = 0;
-    while k < m {
+    for k in 0..slots(tips) {
         next = show_head(tips, tails, connected, out, next, HeadSlot(k));
-        k += 1;
     }
     next
 }

@@ -1,5 +1,6 @@
 -- A byte that comes, and a last line: what the buffer then holds is what the count then is.
-use Rattle.std.specs.Prelude.{if◌then◌else◌}
+use Rattle.trial_notes.specs.declared.Reason.{Reason}
+use Rattle.std.specs.Prelude.{if◌then◌else◌, Option}
 use mathlib.Core.Path.{◌≡◌, ap}
 use mathlib.Core.Logic.{◌≢◌}
 use mathlib.Core.List.{List}
@@ -14,18 +15,17 @@ use Rattle.trial_notes.specs.Texts.{note_text}
 use Rattle.trial_notes.specs.Notes.{begun_fault, next_number, line_noted, noted_byte, last_noted}
 use Rattle.trial_notes.specs.Held.{held_of, count_in, held_byte, Comes, Lasts}
 use Rattle.trial_notes.specs.declared.Noting.{Noting}
-use Rattle.trial_notes.specs.declared.Fault.{Fault}
 
 -- the fault of what stands in a buffer
-abbrev pub FaultIn : List ℕ → ℕ → Fault → Type 0
+abbrev pub FaultIn : List ℕ → ℕ → Option Reason → Type 0
 FaultIn line begun why = why ≡ begun_fault (if leb begun (length line) then so_far (take begun line) else too_long)
 
-line-noted : (line : List ℕ) (z : Noting) (why : Fault) → FaultIn line z.begun why → length line ≡ line_most
+line-noted : (line : List ℕ) (z : Noting) (why : Option Reason) → FaultIn line z.begun why → length line ≡ line_most
     → note_text z.number why ≡ line_noted (count_in (held_of line z))
 unfolding count_in begun_of line_noted
 line-noted line z why is e = ap (note_text z.number) (rw e at is)
 
-pub byte-ends : (line : List ℕ) (z : Noting) (byte at next number : ℕ) (why : Fault) (out written : List ℕ) → FaultIn line z.begun why
+pub byte-ends : (line : List ℕ) (z : Noting) (byte at next number : ℕ) (why : Option Reason) (out written : List ℕ) → FaultIn line z.begun why
     → Put out at (note_text z.number why) written next → number ≡ next_number z.number → byte ≡ 10 → length line ≡ line_most
     → Comes (held_byte (held_of line z) byte) (noted_byte (count_in (held_of line z)) byte) out at
     (held_of line (record { number = number; begun = 0 })) written next
@@ -51,7 +51,7 @@ byte-joins line more z byte have at out (m, k) ne e =
       end = rw q (put-none out at).1;
     }
 
-pub last-ends : (line : List ℕ) (z : Noting) (next : ℕ) (why : Fault) (out written : List ℕ) → FaultIn line z.begun why
+pub last-ends : (line : List ℕ) (z : Noting) (next : ℕ) (why : Option Reason) (out written : List ℕ) → FaultIn line z.begun why
     → Put out 0 (note_text z.number why) written next → z.begun ≢ 0 → length line ≡ line_most
     → Lasts (count_in (held_of line z)) out written next
 unfolding last_noted count_in

@@ -1,6 +1,5 @@
 pub mod Chunks
 pub mod Counted
-pub mod Found
 pub mod Pieces
 pub mod Room
 pub mod Told

@@ -1,4 +1,5 @@
 -- The pieces of a note, and how long it is.
+use Rattle.std.specs.Prelude.{Option, Some, None}
 use mathlib.Core.List.{List, [], ◌∷◌, flatten}
 use Prim.Native.Nat.{ℕ, ◌≤◌}
 use native.Mathlib.Omega.{arith}
@@ -10,11 +11,9 @@ use Rattle.trial_lines.proofs.Short.{digits-short}
 use Rattle.trial_notes.specs.Texts.{reason_text, note_text}
 use Rattle.trial_notes.specs.declared.Reason.{Reason}
 use Rattle.trial_notes.specs.declared.Reason.TheVariants.{TooLong, Empty, CarriageReturn, SpaceFirst, SpaceLast, SpaceTwice, NoLetter, LowerLetter, FieldMissing, FieldExtra, NoNumber, WordTooLarge, TimeTooLarge, NoHash, UpperHash}
-use Rattle.trial_notes.specs.declared.Fault.{Fault}
-use Rattle.trial_notes.specs.declared.Fault.TheVariants.{Nothing, Is}
 
 pub note-pieces : (l m : List ℕ) (at r number : ℕ) (why : Reason)
-    → Puts l at (bytes "line " ∷ digits number ∷ bytes ": " ∷ reason_text why ∷ (10 ∷ []) ∷ []) m r → Put l at (note_text number (Is why)) m r
+    → Puts l at (bytes "line " ∷ digits number ∷ bytes ": " ∷ reason_text why ∷ (10 ∷ []) ∷ []) m r → Put l at (note_text number (Some why)) m r
 unfolding note_text flatten
 note-pieces l m at r number why p = puts-put l m at r _ p
 
@@ -36,7 +35,7 @@ reason-short TimeTooLarge = omega arith
 reason-short NoHash = omega arith
 reason-short UpperHash = omega arith
 
-pub note-short : (number : ℕ) (fault : Fault) → length (note_text number fault) ≤ 96
+pub note-short : (number : ℕ) (fault : Option Reason) → length (note_text number fault) ≤ 96
 unfolding bytes_from bytes digits note_text
-note-short number Nothing = omega arith
-note-short number (Is why) = simp length-append (omega (arith, digits-short 20 number, reason-short why))
+note-short number None = omega arith
+note-short number (Some why) = simp length-append (omega (arith, digits-short 20 number, reason-short why))

@@ -2,44 +2,32 @@
 use mathlib.Core.Path.{◌≡◌, refl, sym, ap, ◌∙◌}
 use mathlib.Core.Bool.{Bool, true, false, ◌&&◌, ◌||◌}
 use mathlib.Core.List.{List, [], ◌∷◌}
-use mathlib.Core.Option.{Option, none, some}
+use Rattle.std.specs.Prelude.{Option, None, Some, is_some, is_none, option_map}
+use Rattle.std.specs.Option.{option_or}
 use Prim.Native.Nat.{ℕ, zero, suc, ◌+◌, ◌-◌, ◌<◌}
 use native.Mathlib.Omega.{arith}
 use borrow.Author.Tests.{eq-eqb, ltb-true, eqb-true}
 use lib.Dec.{eqb, ltb}
 use lib.ListN.{length, get_or, drop, length-drop}
 use lib.Seq.{get_or-drop}
-use Rattle.rules.specs.Common.{is_some}
 use Rattle.rules.proofs.Splits.{split, true-not-false, and-true, and_false_r}
 use Rattle.trial_lines.specs.Begun.{Begun, so_far, too_long, line_begun}
-use Rattle.trial_lines.specs.Reading.{field_length, first, rest, letter, is_digit, all_digits, number, word_most, time_most, hash_byte, fresh_read, admit_read, timer_read, fresh_of, admit_of, promote_of, remove_of, under_of, screen_read, timer_of, restart_of, parse}
+use Rattle.trial_lines.specs.Reading.{field_length, first, rest, letter, is_digit, all_digits, number, word_most, time_most, hash_byte, ◌>>=◌, fresh_of, admit_of, slot_of, screen_read, timer_of, parse}
+use Rattle.rules.specs.declared.BlockSlot.{BlockSlot}
 use Rattle.trial_lines.specs.declared.Line.{Line}
-use Rattle.trial_lines.specs.declared.Line.TheVariants.{Fresh, Admit, Promote, Remove, Under, Screen, Timer, Restart, Unread}
+use Rattle.trial_lines.specs.declared.Line.TheVariants.{Fresh, Admit, Promote, Remove, Under, Timer, Restart}
 use Rattle.trial_lines.proofs.Bytes.{number-empty, number-not}
-use Rattle.trial_notes.specs.Faults.{is_nothing, unless, found, number_fault, word_fault, time_fault, hash_reason, hash_fault, inner, last, fresh_fault, admit_fault, timer_fault, screen_fault, letter_fault, fields_fault, last_byte, fault_of}
+use Rattle.trial_notes.specs.Faults.{found, number_fault, word_fault, time_fault, hash_reason, hash_fault, inner, last, fresh_fault, admit_fault, timer_fault, screen_fault, letter_fault, fields_fault, last_byte, fault_of}
 use Rattle.trial_notes.specs.Notes.{begun_fault}
 use Rattle.trial_notes.specs.declared.Reason.{Reason}
-use Rattle.trial_notes.specs.declared.Fault.{Fault}
-use Rattle.trial_notes.specs.declared.Fault.TheVariants.{Nothing, Is}
-
-abbrev pub is_read : Line → Bool
-is_read (Fresh n m) = true
-is_read (Admit sequence hash previous arrival) = true
-is_read (Promote slot) = true
-is_read (Remove slot) = true
-is_read (Under slot) = true
-is_read Screen = true
-is_read (Timer now retry) = true
-is_read (Restart now) = true
-is_read Unread = false
 
 -- ---- a field by itself
 
-found_some : (o : Option ℕ) (why : Reason) → is_nothing (found o why) ≡ is_some o
-found_some none why = refl
-found_some (some n) why = refl
+found_some : (o : Option ℕ) (why : Reason) → is_none (found o why) ≡ is_some o
+found_some None why = refl
+found_some (Some n) why = refl
 
-number-told : (most : ℕ) (larger : Reason) (field : List ℕ) → is_nothing (number_fault most larger field) ≡ is_some (number most field)
+number-told : (most : ℕ) (larger : Reason) (field : List ℕ) → is_none (number_fault most larger field) ≡ is_some (number most field)
 unfolding number_fault
 number-told most larger field =
     split (eqb (length field) 0)
@@ -48,11 +36,11 @@ number-told most larger field =
     (λ d. rw (e, d) (found_some (number most field) larger))
     (λ d. rw (e, d, number-not most field d)))
 
-hash-empty : (field : List ℕ) → length field ≡ 0 → hash_byte field ≡ none
+hash-empty : (field : List ℕ) → length field ≡ 0 → hash_byte field ≡ None
 unfolding hash_byte
 hash-empty field e = rw e
 
-hash-told : (field : List ℕ) → is_nothing (hash_fault field) ≡ is_some (hash_byte field)
+hash-told : (field : List ℕ) → is_none (hash_fault field) ≡ is_some (hash_byte field)
 unfolding hash_fault
 hash-told field =
     split (eqb (length field) 0)
@@ -69,14 +57,14 @@ no-first (b ∷ left) e = rw (eq-eqb b 32 e)
 empty-first : (left : List ℕ) → get_or left 0 0 ≡ 32 → first left ≡ []
 empty-first left e = rw (no-first left e)
 
-inner-number : (most : ℕ) (larger : Reason) (left : List ℕ) → is_nothing (inner (number_fault most larger) left) ≡ is_some (number most (first left))
+inner-number : (most : ℕ) (larger : Reason) (left : List ℕ) → is_none (inner (number_fault most larger) left) ≡ is_some (number most (first left))
 unfolding inner
 inner-number most larger left =
     split (eqb (get_or left 0 0) 32)
     (λ e. rw (e, empty-first left (eqb-true (get_or left 0 0) 32 e), number-empty most [] refl))
     (λ e. rw e (number-told most larger (first left)))
 
-inner-hash : (left : List ℕ) → is_nothing (inner hash_fault left) ≡ is_some (hash_byte (first left))
+inner-hash : (left : List ℕ) → is_none (inner hash_fault left) ≡ is_some (hash_byte (first left))
 unfolding inner
 inner-hash left =
     split (eqb (get_or left 0 0) 32)
@@ -90,14 +78,14 @@ spaced [] h = absurd (omega arith)
 spaced (b ∷ left) h =
     split (eqb b 32)
     (λ e. let q : b ≡ 32 = eqb-true b 32 e in rw q)
-    (λ e. let k : suc (field_length left) < suc (length left) = rw e at h in
+    (λ e. let k : 1 + field_length left < suc (length left) = rw e at h in
     and_false_r (is_digit b) (all_digits left) (spaced left (omega arith)))
 
 spaced-first : (left : List ℕ) → get_or left 0 0 ≡ 32 → field_length left < length left
 spaced-first [] e = absurd (omega arith)
 spaced-first (b ∷ left) e = omega (arith, no-first (b ∷ left) e)
 
-last-number : (most : ℕ) (larger : Reason) (left : List ℕ) → is_nothing (last (number_fault most larger) left) ≡ is_some (number most left)
+last-number : (most : ℕ) (larger : Reason) (left : List ℕ) → is_none (last (number_fault most larger) left) ≡ is_some (number most left)
 unfolding last
 last-number most larger left =
     split (eqb (get_or left 0 0) 32)
@@ -108,84 +96,69 @@ last-number most larger left =
 
 -- ---- what follows the letter
 
-both-nothing : (fault later : Fault) → is_nothing (unless fault later) ≡ (is_nothing fault && is_nothing later)
-both-nothing Nothing later = refl
-both-nothing (Is why) later = refl
+both-none : (fault later : Option Reason) → is_none (option_or fault later) ≡ (is_none fault && is_none later)
+both-none None later = refl
+both-none (Some why) later = refl
 
-fresh-read : (n m : Option ℕ) → (is_some n && is_some m) ≡ is_read (fresh_read n m)
-fresh-read none m = refl
-fresh-read (some n) none = refl
-fresh-read (some n) (some m) = refl
+one-read : {A B : Type 0} (line : A → B) (field : Option A) → is_some field ≡ is_some (option_map line field)
+one-read line None = refl
+one-read line (Some k) = refl
 
-timer-read : (clock retry : Option ℕ) → (is_some clock && is_some retry) ≡ is_read (timer_read clock retry)
-timer-read none retry = refl
-timer-read (some clock) none = refl
-timer-read (some clock) (some retry) = refl
+two-read : (line : ℕ → ℕ → Line) (n m : Option ℕ) → (is_some n && is_some m) ≡ is_some (n >>= λ a. m >>= λ b. Some (line a b))
+two-read line None m = refl
+two-read line (Some n) None = refl
+two-read line (Some n) (Some m) = refl
 
-admit-read : (sequence hash previous arrival : Option ℕ)
-    → (is_some sequence && (is_some hash && (is_some previous && is_some arrival))) ≡ is_read (admit_read sequence hash previous arrival)
-admit-read none h p a = refl
-admit-read (some s) none p a = refl
-admit-read (some s) (some h) none a = refl
-admit-read (some s) (some h) (some p) none = refl
-admit-read (some s) (some h) (some p) (some a) = refl
+four-read : (line : ℕ → ℕ → ℕ → ℕ → Line) (n m o p : Option ℕ)
+    → (is_some n && (is_some m && (is_some o && is_some p))) ≡ is_some (n >>= λ a. m >>= λ b. o >>= λ c. p >>= λ d. Some (line a b c d))
+four-read line None m o p = refl
+four-read line (Some n) None o p = refl
+four-read line (Some n) (Some m) None p = refl
+four-read line (Some n) (Some m) (Some o) None = refl
+four-read line (Some n) (Some m) (Some o) (Some p) = refl
 
--- a line of one field
-one-read : (line : ℕ → Line) → ((k : ℕ) → is_read (line k) ≡ true) → (field : Option ℕ) → is_some field ≡ is_read (elim field [ none ↦ Unread | some k ↦ line k ])
-one-read line read none = refl
-one-read line read (some k) = sym (read k)
+abbrev admits : ℕ → ℕ → ℕ → ℕ → Line
+admits sequence = Admit (record { 0 = sequence })
 
-fresh-told : (fields : List ℕ) → is_nothing (fresh_fault fields) ≡ is_read (fresh_of fields)
+fresh-told : (fields : List ℕ) → is_none (fresh_fault fields) ≡ is_some (fresh_of fields)
 unfolding fresh_fault fresh_of
 fresh-told fields =
-    both-nothing (inner word_fault fields) (last word_fault (rest fields))
-    ∙ rw (inner-number word_most _ fields, last-number word_most _ (rest fields)) (fresh-read (number word_most (first fields)) (number word_most (rest fields)))
+    both-none (inner word_fault fields) (last word_fault (rest fields))
+    ∙ rw (inner-number word_most _ fields, last-number word_most _ (rest fields)) (two-read Fresh _ _)
 
-timer-told : (fields : List ℕ) → is_nothing (timer_fault fields) ≡ is_read (timer_of fields)
+timer-told : (fields : List ℕ) → is_none (timer_fault fields) ≡ is_some (timer_of fields)
 unfolding timer_fault timer_of
 timer-told fields =
-    both-nothing (inner time_fault fields) (last time_fault (rest fields))
-    ∙ rw (inner-number time_most _ fields, last-number time_most _ (rest fields)) (timer-read (number time_most (first fields)) (number time_most (rest fields)))
+    both-none (inner time_fault fields) (last time_fault (rest fields))
+    ∙ rw (inner-number time_most _ fields, last-number time_most _ (rest fields)) (two-read Timer _ _)
 
-admit-told : (fields : List ℕ) → is_nothing (admit_fault fields) ≡ is_read (admit_of fields)
+admit-told : (fields : List ℕ) → is_none (admit_fault fields) ≡ is_some (admit_of fields)
 unfolding admit_fault admit_of
 admit-told fields =
     let hashes = rest fields in
     let later = rest hashes in
-    both-nothing (inner word_fault fields) (unless (inner hash_fault hashes) (unless (inner hash_fault later) (last time_fault (rest later))))
+    both-none (inner word_fault fields) (option_or (inner hash_fault hashes) (option_or (inner hash_fault later) (last time_fault (rest later))))
     ∙ rw (
-      both-nothing (inner hash_fault hashes) (unless (inner hash_fault later) (last time_fault (rest later))),
-      both-nothing (inner hash_fault later) (last time_fault (rest later)),
+      both-none (inner hash_fault hashes) (option_or (inner hash_fault later) (last time_fault (rest later))),
+      both-none (inner hash_fault later) (last time_fault (rest later)),
       inner-number word_most _ fields,
       inner-hash hashes,
       inner-hash later,
       last-number time_most _ (rest later),
-    ) (admit-read (number word_most (first fields)) (hash_byte (first hashes)) (hash_byte (first later)) (number time_most (rest later)))
+    ) (four-read admits (number word_most (first fields)) (hash_byte (first hashes)) (hash_byte (first later)) (number time_most (rest later)))
 
-promote-told : (fields : List ℕ) → is_nothing (last word_fault fields) ≡ is_read (promote_of fields)
-unfolding promote_of
-promote-told fields = last-number word_most _ fields ∙ one-read (λ k. Promote (record { 0 = k })) (λ k. refl) (number word_most fields)
+slot-read : (line : BlockSlot → Line) (fields : List ℕ) → is_some (number word_most fields) ≡ is_some (option_map line (slot_of fields))
+unfolding slot_of
+slot-read line fields = one-read _ (number word_most fields) ∙ one-read line _
 
-remove-told : (fields : List ℕ) → is_nothing (last word_fault fields) ≡ is_read (remove_of fields)
-unfolding remove_of
-remove-told fields = last-number word_most _ fields ∙ one-read (λ k. Remove (record { 0 = k })) (λ k. refl) (number word_most fields)
-
-under-told : (fields : List ℕ) → is_nothing (last word_fault fields) ≡ is_read (under_of fields)
-unfolding under_of
-under-told fields = last-number word_most _ fields ∙ one-read (λ k. Under (record { 0 = k })) (λ k. refl) (number word_most fields)
-
-screen-told : (line : List ℕ) → is_nothing (screen_fault line) ≡ is_read (screen_read line)
+screen-told : (line : List ℕ) → is_none (screen_fault line) ≡ is_some (screen_read line)
 unfolding screen_fault screen_read
 screen-told line =
     split (eqb (length line) 1)
     (λ e. rw e)
     (λ e. split (eqb (get_or line 2 0) 32) (λ f. rw (e, f)) (λ f. rw (e, f)))
 
-restart-told : (fields : List ℕ) → is_nothing (last time_fault fields) ≡ is_read (restart_of fields)
-unfolding restart_of
-restart-told fields = last-number time_most _ fields ∙ one-read Restart (λ k. refl) (number time_most fields)
-
-fields_told : (line : List ℕ) → is_nothing (fields_fault line) ≡ is_read (parse line)
+fields_told : (line : List ℕ) → is_none (fields_fault line) ≡ is_some (parse line)
 unfolding fields_fault letter_fault parse
 fields_told line =
     split (eqb (letter line) 78)
@@ -193,17 +166,17 @@ fields_told line =
     (λ a. split (eqb (letter line) 65)
     (λ e. rw (a, e) (admit-told (rest line)))
     (λ b. split (eqb (letter line) 80)
-    (λ e. rw (a, b, e) (promote-told (rest line)))
+    (λ e. rw (a, b, e) (last-number word_most _ (rest line) ∙ slot-read Promote (rest line)))
     (λ c. split (eqb (letter line) 68)
-    (λ e. rw (a, b, c, e) (remove-told (rest line)))
+    (λ e. rw (a, b, c, e) (last-number word_most _ (rest line) ∙ slot-read Remove (rest line)))
     (λ d. split (eqb (letter line) 85)
-    (λ e. rw (a, b, c, d, e) (under-told (rest line)))
+    (λ e. rw (a, b, c, d, e) (last-number word_most _ (rest line) ∙ slot-read Under (rest line)))
     (λ f. split (eqb (letter line) 86)
     (λ e. rw (a, b, c, d, f, e) (screen-told line))
     (λ g. split (eqb (letter line) 84)
     (λ e. rw (a, b, c, d, f, g, e) (timer-told (rest line)))
     (λ h. split (eqb (letter line) 82)
-    (λ e. rw (a, b, c, d, f, g, h, e) (restart-told (rest line)))
+    (λ e. rw (a, b, c, d, f, g, h, e) (last-number time_most _ (rest line) ∙ one-read Restart (number time_most (rest line))))
     (λ e. rw (a, b, c, d, f, g, h, e)))))))))
 
 -- ---- the line as a whole: what is read ends in a digit, or is V
@@ -233,21 +206,21 @@ drop-ends k l (h, d) =
     let e : last_byte (drop k l) ≡ last_byte l = get_or-drop k l (length (drop k l) - 1) 0 ∙ ap (λ (x : ℕ). get_or l x 0) i in
     (omega arith, rw e at d)
 
-fresh-ends : (fields : List ℕ) → is_read (fresh_of fields) ≡ true → Ends fields
+fresh-ends : (fields : List ℕ) → is_some (fresh_of fields) ≡ true → Ends fields
 unfolding fresh_of
 fresh-ends fields r =
     let n = number word_most (first fields) in
     let m = number word_most (rest fields) in
-    drop-ends (suc (field_length fields)) fields (number-ends word_most (rest fields) (and-true (is_some n) (is_some m) (fresh-read n m ∙ r)).1)
+    drop-ends (suc (field_length fields)) fields (number-ends word_most (rest fields) (and-true (is_some n) (is_some m) (two-read Fresh n m ∙ r)).1)
 
-timer-ends : (fields : List ℕ) → is_read (timer_of fields) ≡ true → Ends fields
+timer-ends : (fields : List ℕ) → is_some (timer_of fields) ≡ true → Ends fields
 unfolding timer_of
 timer-ends fields r =
     let n = number time_most (first fields) in
     let m = number time_most (rest fields) in
-    drop-ends (suc (field_length fields)) fields (number-ends time_most (rest fields) (and-true (is_some n) (is_some m) (timer-read n m ∙ r)).1)
+    drop-ends (suc (field_length fields)) fields (number-ends time_most (rest fields) (and-true (is_some n) (is_some m) (two-read Timer n m ∙ r)).1)
 
-admit-ends : (fields : List ℕ) → is_read (admit_of fields) ≡ true → Ends fields
+admit-ends : (fields : List ℕ) → is_some (admit_of fields) ≡ true → Ends fields
 unfolding admit_of
 admit-ends fields r =
     let hashes = rest fields in
@@ -256,7 +229,7 @@ admit-ends fields r =
     let h = hash_byte (first hashes) in
     let p = hash_byte (first later) in
     let a = number time_most (rest later) in
-    let x = (and-true (is_some s) (is_some h && (is_some p && is_some a)) (admit-read s h p a ∙ r)).1 in
+    let x = (and-true (is_some s) (is_some h && (is_some p && is_some a)) (four-read admits s h p a ∙ r)).1 in
     let y = (and-true (is_some p) (is_some a) (and-true (is_some h) (is_some p && is_some a) x).1).1 in
     drop-ends (suc (field_length fields)) fields
     (drop-ends (suc (field_length hashes)) hashes
@@ -265,7 +238,7 @@ admit-ends fields r =
 abbrev ends_line : ℕ → Bool
 ends_line b = is_digit b || eqb b 86
 
-screen-ends : (line : List ℕ) → letter line ≡ 86 → is_read (screen_read line) ≡ true → ends_line (last_byte line) ≡ true
+screen-ends : (line : List ℕ) → letter line ≡ 86 → is_some (screen_read line) ≡ true → ends_line (last_byte line) ≡ true
 unfolding screen_read
 screen-ends line e r =
     split (eqb (length line) 1)
@@ -274,7 +247,7 @@ screen-ends line e r =
     (λ f. let b : 0 ≡ 86 = rw f at e in absurd (omega arith)))
     (λ l. true-not-false {b = false} (rw l at r) refl)
 
-line-ends : (line : List ℕ) → is_read (parse line) ≡ true → ends_line (last_byte line) ≡ true
+line-ends : (line : List ℕ) → is_some (parse line) ≡ true → ends_line (last_byte line) ≡ true
 unfolding parse
 line-ends line r =
     let behind : Ends (rest line) → ends_line (last_byte line) ≡ true = λ e. rw (drop-ends (suc (field_length line)) line e).1 in
@@ -283,32 +256,32 @@ line-ends line r =
     (λ a. split (eqb (letter line) 65)
     (λ e. behind (admit-ends (rest line) (rw (a, e) at r)))
     (λ b. split (eqb (letter line) 80)
-    (λ e. behind (number-ends word_most (rest line) (sym (last-number word_most _ (rest line)) ∙ promote-told (rest line) ∙ rw (a, b, e) at r)))
+    (λ e. behind (number-ends word_most (rest line) (slot-read Promote (rest line) ∙ rw (a, b, e) at r)))
     (λ c. split (eqb (letter line) 68)
-    (λ e. behind (number-ends word_most (rest line) (sym (last-number word_most _ (rest line)) ∙ remove-told (rest line) ∙ rw (a, b, c, e) at r)))
+    (λ e. behind (number-ends word_most (rest line) (slot-read Remove (rest line) ∙ rw (a, b, c, e) at r)))
     (λ d. split (eqb (letter line) 85)
-    (λ e. behind (number-ends word_most (rest line) (sym (last-number word_most _ (rest line)) ∙ under-told (rest line) ∙ rw (a, b, c, d, e) at r)))
+    (λ e. behind (number-ends word_most (rest line) (slot-read Under (rest line) ∙ rw (a, b, c, d, e) at r)))
     (λ f. split (eqb (letter line) 86)
     (λ e. screen-ends line (eqb-true (letter line) 86 e) (rw (a, b, c, d, f, e) at r))
     (λ g. split (eqb (letter line) 84)
     (λ e. behind (timer-ends (rest line) (rw (a, b, c, d, f, g, e) at r)))
     (λ h. split (eqb (letter line) 82)
-    (λ e. behind (number-ends time_most (rest line) (sym (last-number time_most _ (rest line)) ∙ restart-told (rest line) ∙ rw (a, b, c, d, f, g, h, e) at r)))
+    (λ e. behind (number-ends time_most (rest line) (one-read Restart (number time_most (rest line)) ∙ rw (a, b, c, d, f, g, h, e) at r)))
     (λ e. true-not-false {b = false} (rw (a, b, c, d, f, g, h, e) at r) refl))))))))
 
-last-unread : (line : List ℕ) (byte : ℕ) → last_byte line ≡ byte → ends_line byte ≡ false → is_read (parse line) ≡ false
-last-unread line byte e d = split (is_read (parse line)) (λ r. true-not-false (line-ends line r) (rw e d)) (λ r. r)
+last-unread : (line : List ℕ) (byte : ℕ) → last_byte line ≡ byte → ends_line byte ≡ false → is_some (parse line) ≡ false
+last-unread line byte e d = split (is_some (parse line)) (λ r. true-not-false (line-ends line r) (rw e d)) (λ r. r)
 
-empty-unread : (line : List ℕ) → length line ≡ 0 → is_read (parse line) ≡ false
+empty-unread : (line : List ℕ) → length line ≡ 0 → is_some (parse line) ≡ false
 unfolding field_length parse
 empty-unread [] e = refl
 empty-unread (b ∷ line) e = absurd (omega arith)
 
-space-unread : (line : List ℕ) → get_or line 0 0 ≡ 32 → is_read (parse line) ≡ false
+space-unread : (line : List ℕ) → get_or line 0 0 ≡ 32 → is_some (parse line) ≡ false
 unfolding parse
 space-unread line e = rw (no-first line e)
 
-pub line-told : (line : List ℕ) → is_nothing (fault_of line) ≡ is_read (parse line)
+pub line-told : (line : List ℕ) → is_none (fault_of line) ≡ is_some (parse line)
 unfolding fault_of
 line-told line =
     split (eqb (length line) 0)
@@ -321,7 +294,7 @@ line-told line =
     (λ e. rw (a, b, c, e) (sym (last-unread line 32 (eqb-true (last_byte line) 32 e) refl)))
     (λ e. rw (a, b, c, e) (fields_told line)))))
 
-pub begun-told : (b : Begun) → is_nothing (begun_fault b) ≡ is_read (line_begun b)
+pub begun-told : (b : Begun) → is_none (begun_fault b) ≡ is_some (line_begun b)
 unfolding begun_fault line_begun
 begun-told (so_far bytes) = line-told bytes
 begun-told too_long = refl

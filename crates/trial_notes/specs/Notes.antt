@@ -1,11 +1,10 @@
 -- What is noted of a trial's lines, byte after byte: a note for each that cannot be read.
-use Rattle.std.specs.Prelude.{List, [], ◌∷◌, ◌++◌, ℕ, ◌+◌, min, eqb, if◌then◌else◌}
+use Rattle.trial_notes.specs.declared.Reason.{Reason}
+use Rattle.std.specs.Prelude.{List, [], ◌∷◌, ◌++◌, ℕ, ◌+◌, min, eqb, if◌then◌else◌, Option, Some}
 use Rattle.trial_lines.specs.Begun.{Begun, so_far, too_long, longer, has_begun}
 use Rattle.trial_notes.specs.Faults.{fault_of}
 use Rattle.trial_notes.specs.Texts.{note_text}
 use Rattle.trial_notes.specs.declared.Reason.TheVariants.{TooLong}
-use Rattle.trial_notes.specs.declared.Fault.{Fault}
-use Rattle.trial_notes.specs.declared.Fault.TheVariants.{Is}
 
 -- the number of the line that comes, and what has come of it
 pub record Count : Type 0 where
@@ -17,9 +16,9 @@ pub record Told : Type 0 where
   pub count : Count
   pub said : List ℕ
 
-unfoldable pub begun_fault : (begun : Begun) → Fault
+unfoldable pub begun_fault : (begun : Begun) → Option Reason
 begun_fault (so_far bytes) = fault_of bytes
-begun_fault too_long = Is TooLong
+begun_fault too_long = Some TooLong
 
 -- lines are counted in 64 bits, up to the largest number
 abbrev pub next_number : (number : ℕ) → ℕ

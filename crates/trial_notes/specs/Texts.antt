@@ -1,11 +1,9 @@
 -- The text of a note: the line's number and why it cannot be read.
-use Rattle.std.specs.Prelude.{List, [], ◌∷◌, ◌++◌, ℕ}
+use Rattle.std.specs.Prelude.{List, [], ◌∷◌, ◌++◌, ℕ, Option, Some, None}
 use Rattle.trial_lines.specs.Text.{bytes}
 use Rattle.trial_lines.specs.Writing.{digits}
 use Rattle.trial_notes.specs.declared.Reason.{Reason}
 use Rattle.trial_notes.specs.declared.Reason.TheVariants.{TooLong, Empty, CarriageReturn, SpaceFirst, SpaceLast, SpaceTwice, NoLetter, LowerLetter, FieldMissing, FieldExtra, NoNumber, WordTooLarge, TimeTooLarge, NoHash, UpperHash}
-use Rattle.trial_notes.specs.declared.Fault.{Fault}
-use Rattle.trial_notes.specs.declared.Fault.TheVariants.{Nothing, Is}
 
 unfoldable pub reason_text : (why : Reason) → List ℕ
 reason_text TooLong = bytes "more than 128 bytes"
@@ -25,6 +23,6 @@ reason_text NoHash = bytes "a hash is not two hexadecimal digits"
 reason_text UpperHash = bytes "a hash is in upper case"
 
 -- the end of a line is the byte 10
-unfoldable pub note_text : (number : ℕ) (fault : Fault) → List ℕ
-note_text number Nothing = []
-note_text number (Is why) = bytes "line " ++ (digits number ++ (bytes ": " ++ (reason_text why ++ 10 ∷ [])))
+unfoldable pub note_text : (number : ℕ) (fault : Option Reason) → List ℕ
+note_text number None = []
+note_text number (Some why) = bytes "line " ++ (digits number ++ (bytes ": " ++ (reason_text why ++ 10 ∷ [])))

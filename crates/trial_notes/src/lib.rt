@@ -34,13 +34,6 @@ pub enum Reason {
     UpperHash,
 }
 
-// What is wrong with a line, if anything is.
-#[derive(Clone, Copy)]
-pub enum Fault {
-    Nothing,
-    Is(Reason),
-}
-
 // How many bytes the notes of a chunk may have: a byte makes no more than 96.
 pub const ROOM: usize = 196608;
 
@@ -76,7 +69,7 @@ pub fn note(line: &mut [u8; 128], noting: Noting, chunk: &[u8], out: &mut [u8; R
         (noted (count_in (held_of line.old noting)) (take chunk_most chunk.now)) out.old
         (held_of line.new result.noting) out.new result.at }
 {
-    take_bytes(line, noting, chunk, CHUNK, out)
+    take_bytes(line, noting, &chunk[..CHUNK.min(chunk.len())], out)
 }
 
 // The note of the last line, if that lacks its end.

@@ -6,27 +6,24 @@ ghost use Rattle.trial_notes.specs.Held.{held_of, count_in, held_byte, held_fed,
 
 use crate::faults::fault;
 use crate::text::put_note;
-use crate::{Fault, Noted, Noting, Reason};
-use cells::least;
+use crate::{Noted, Noting, Reason};
 use trial_lines::begun::join;
 
-fn fault_of(line: &[u8], begun: usize) -> Fault
+#[tactic(auto, unfolding(crate::specs::Notes::begun_fault))]
+fn fault_of(line: &[u8], begun: usize) -> Option<Reason>
     ensures { result
         ≡ begun_fault (if leb begun (length line.now) then so_far (take begun line.now) else too_long) }
 {
-    if line.len() < begun {
-        return Fault::Is(Reason::TooLong);
+    match line.get(..begun) {
+        Some(bytes) => fault(bytes),
+        None => Some(Reason::TooLong),
     }
-    fault(&line[0..begun])
 }
 
 fn next_number(number: u64) -> u64
     ensures { result ≡ next_number number }
 {
-    if number == u64::MAX {
-        return number;
-    }
-    number + 1
+    number.saturating_add(1)
 }
 
 // The byte 10 ends a line; any other joins it.
@@ -54,24 +51,15 @@ fn take_byte(line: &mut [u8; 128], noting: Noting, byte: u8, out: &mut [u8], at:
     }
 }
 
-// One byte after the other, no more than `most`.
-pub fn take_bytes(
-    line: &mut [u8; 128],
-    noting: Noting,
-    bytes: &[u8],
-    most: usize,
-    out: &mut [u8],
-) -> Noted
-    ensures { Comes (held_fed (held_of line.old noting) (take most bytes.now))
-        (noted (count_in (held_of line.old noting)) (take most bytes.now)) out.old 0
+// One byte after the other.
+pub fn take_bytes(line: &mut [u8; 128], noting: Noting, bytes: &[u8], out: &mut [u8]) -> Noted
+    ensures { Comes (held_fed (held_of line.old noting) bytes.now)
+        (noted (count_in (held_of line.old noting)) bytes.now) out.old 0
         (held_of line.new result.noting) out.new result.at }
 {
-    let n = least(most, bytes.len());
     let mut noted = Noted { noting, at: 0 };
-    let mut i = 0;
-    while i < n {
-        noted = take_byte(line, noted.noting, bytes[i], out, noted.at);
-        i += 1;
+    for byte in bytes {
+        noted = take_byte(line, noted.noting, *byte, out, noted.at);
     }
     noted
 }

@@ -1,26 +1,28 @@
 -- A line's call on the front of the arrays is what the line does to the session that they hold.
-use Rattle.std.specs.Prelude.{if◌then◌else◌}
+use Rattle.std.specs.Prelude.{if◌then◌else◌, Option, Some, None}
 use mathlib.Core.Path.{◌≡◌, refl, sym, ap, ◌∙◌}
 use mathlib.Core.Bool.{Bool, true, false}
 use mathlib.Core.List.{List, []}
 use Prim.Native.Nat.{ℕ}
 use native.Mathlib.Omega.{arith}
-use lib.ListN.{length}
+use lib.Dec.{leb}
+use lib.ListN.{length, take}
 use lib.Seq.{sets}
 use Rattle.rules.specs.Records.{Tables}
 use Rattle.rules.specs.Answers.{Answer, refused, done}
 use Rattle.rules.specs.Calls.{State, Stepped, state_of, answering, refuse, shaped, fresh_state, fresh, blocks_in, heads_in}
 use Rattle.rules.proofs.Splits.{split}
-use Rattle.trial_lines.specs.Begun.{so_far, begun_of}
+use Rattle.trial_lines.specs.Begun.{line_most, so_far, too_long, line_begun, begun_of}
 use Rattle.trial_lines.specs.Writing.{place}
 use Rattle.trial_lines.specs.declared.Line.{Line}
-use Rattle.trial_lines.specs.declared.Line.TheVariants.{Fresh, Admit, Promote, Remove, Under, Screen, Timer, Restart, Unread}
-use Rattle.trial_calls.specs.Calling.{called, line_said, is_refused, renews, Tells}
-use Rattle.trial_fronts.specs.Fronts.{front, behind, before}
-use Rattle.trial_session.specs.Session.{Session, unless_refused, line_done, line_fed}
-use Rattle.trial_session.specs.Held.{array_blocks, array_heads, Held, held_of, state_in, begun_in, session_in, asked, sizes_after, trial_after, held_line, Comes}
+use Rattle.trial_lines.specs.declared.Line.TheVariants.{Fresh, Admit, Promote, Remove, Under, Screen, Timer, Restart}
+use Rattle.trial_lines.proofs.Places.{Put}
+use Rattle.trial_calls.specs.Calling.{called, line_said, is_refused, renews}
+use Rattle.trial_fronts.specs.Fronts.{array_blocks, array_heads, Sized, front, behind, before, TellsFront}
+use Rattle.trial_session.specs.Session.{Session, unless_refused, line_done, line_fed, ended}
+use Rattle.trial_session.specs.Held.{Held, held_with, state_in, begun_in, session_in, asked, sizes_after, trial_after, held_line, held_ended, Comes, EndsLine}
 use Rattle.trial_session.specs.declared.Trial.{Trial}
-use Rattle.trial_session.proofs.Sized.{Sized, sized-front, sized_fresh, front-shape, shaped-within}
+use Rattle.trial_session.proofs.Sized.{sized-front, sized_fresh, front-shape, shaped-within}
 use Rattle.trial_session.proofs.Laid.{laid_same, laid-is}
 
 -- ---- fresh tables at the front of the arrays
@@ -60,93 +62,99 @@ front-refused k j t a z e = let q : shaped (front k j t) ≡ false = front-shape
 abbrev session_of : State → Session
 session_of s = record { state = s; begun = so_far [] }
 
--- what a line leaves where its sizes are k and j and the answer on its front is d
-comes : (t u : Tables) (bytes : List ℕ) (z : Trial) (line : Line) (out written : List ℕ) (at next : ℕ) (a : Trial) (b : ℕ) (d : Stepped)
-    → line_done (state_in (held_of t bytes z)) line ≡ d → trial_after z line d ≡ sizes_after a b
-    → state_of (front a.n a.m u) b ≡ d.after → behind a.n a.m u ≡ behind a.n a.m t
-    → written ≡ sets out at (line_said line d.answer) → next ≡ place (length out) at (length (line_said line d.answer))
-    → Comes (held_line (held_of t bytes z) line) (line_fed (state_in (held_of t bytes z)) line) out at (held_of u bytes (sizes_after a b)) written next
-unfolding held_line line_fed sizes_after state_in begun_of begun_in session_in
-comes t u bytes z line out written at next a b d is after left rest text end =
-    let f : front a.n a.m u ≡ d.after.tables = ap (λ (s : State). s.tables) left in
-    let l = laid-is a.n a.m t u d.after.tables f rest in
-    let laid : Stepped → Trial → Held = λ x y. held_of (before x.after.tables (behind y.n y.m t)) bytes y in
-    record {
-      held = ap (λ (x : Tables). held_of x bytes (sizes_after a b)) l ∙ ap (laid d) (sym after) ∙ ap (λ (x : Stepped). laid x (trial_after z line x)) (sym is);
-      session = ap (λ (x : State). session_of x) left ∙ ap (λ (x : Stepped). session_of x.after) (sym is);
-      text = text ∙ ap (λ (x : Stepped). sets out at (line_said line x.answer)) (sym is);
-      end = end ∙ ap (λ (x : Stepped). place (length out) at (length (line_said line x.answer))) (sym is);
-    }
+-- what a line does to what is held, where it leaves arrays u and a trial z
+abbrev Does : (h : Held) (line : Option Line) (out : List ℕ) (at : ℕ) (u : Tables) (z : Trial) (written : List ℕ) (next : ℕ) → Type 0
+Does h line out at u z written next = Comes (held_line h line) (line_fed (state_in h) line) out at (held_with u h.line z) written next
 
--- a call on the tables that are there
-plain : (t u : Tables) (bytes : List ℕ) (z : Trial) (line : Line) (out written : List ℕ) (at next : ℕ) (b : ℕ) (renewed : Bool)
-    → line_done (state_in (held_of t bytes z)) line ≡ called (state_in (held_of t bytes z)) line
-    → ((answer : Answer) → renews line answer ≡ false)
-    → Tells (state_of (front z.n z.m t) z.active.0) line out at (state_of (front z.n z.m u) b) renewed written next
-    → behind z.n z.m u ≡ behind z.n z.m t
-    → Comes (held_line (held_of t bytes z) line) (line_fed (state_in (held_of t bytes z)) line) out at
-    (held_of u bytes (sizes_after (if renewed then z else z) b)) written next
-unfolding state_in trial_after
-plain t u bytes z line out written at next b renewed is never tell rest =
-    let d = called (state_in (held_of t bytes z)) line in
-    let r : renewed ≡ false = tell.anew ∙ never d.answer in
-    let head : b ≡ d.after.active_head = ap (λ (s : State). s.active_head) tell.left in
-    let after : trial_after z line d ≡ sizes_after z b = rw (never d.answer) (ap (sizes_after z) (sym head)) in
-    rw r (comes t u bytes z line out written at next z b d is after tell.left rest tell.text tell.end)
+module _ (h : Held) (u : Tables) (out written : List ℕ) (at next b : ℕ) where
+  -- where its sizes are those of a and the answer on its front is d
+  comes : (line : Option Line) (a : Trial) (d : Stepped) → line_done (state_in h) line ≡ d
+      → trial_after h.trial line d ≡ sizes_after a b
+      → state_of (front a.n a.m u) b ≡ d.after → behind a.n a.m u ≡ behind a.n a.m h.arrays
+      → Put out at (line_said line d.answer) written next → Does h line out at u (sizes_after a b) written next
+  unfolding held_line line_fed sizes_after state_in begun_of begun_in session_in
+  comes line a d is after left rest (text, end) =
+      let f : front a.n a.m u ≡ d.after.tables = ap (λ (s : State). s.tables) left in
+      let l = laid-is a.n a.m h.arrays u d.after.tables f rest in
+      let laid : Stepped → Trial → Held = λ x y. held_with (before x.after.tables (behind y.n y.m h.arrays)) h.line y in
+      record {
+        held = ap (λ (x : Tables). held_with x h.line (sizes_after a b)) l ∙ ap (laid d) (sym after)
+            ∙ ap (λ (x : Stepped). laid x (trial_after h.trial line x)) (sym is);
+        session = ap (λ (x : State). session_of x) left ∙ ap (λ (x : Stepped). session_of x.after) (sym is);
+        text = text ∙ ap (λ (x : Stepped). sets out at (line_said line x.answer)) (sym is);
+        end = end ∙ ap (λ (x : Stepped). place (length out) at (length (line_said line x.answer))) (sym is);
+      }
 
--- new tables, or the old ones where they are refused
-anew : (t u : Tables) (bytes : List ℕ) (z : Trial) (n m : ℕ) (out written : List ℕ) (at next : ℕ) (b : ℕ) (renewed : Bool) → Sized array_blocks array_heads t
-    → Tells (state_of (front n m t) z.active.0) (Fresh n m) out at (state_of (front n m u) b) renewed written next
-    → behind n m u ≡ behind n m t
-    → Comes (held_line (held_of t bytes z) (Fresh n m)) (line_fed (state_in (held_of t bytes z)) (Fresh n m)) out at
-    (held_of u bytes (sizes_after (if renewed then asked z (Fresh n m) else z) b)) written next
-unfolding state_in trial_after called line_done unless_refused is_refused renews asked
-anew t u bytes z n m out written at next b renewed sized tell rest =
-    let s = state_in (held_of t bytes z) in
-    let line = Fresh n m in
-    split (shaped (fresh_state n m).tables)
-    (λ e. let d = answering (fresh_state n m) done in
-    let is : fresh (state_of (front n m t) z.active.0) ≡ d = front-accepted n m t z.active.0 sized e in
-    let r : renewed ≡ true = tell.anew ∙ ap (λ (x : Stepped). renews line x.answer) is in
-    let left : state_of (front n m u) b ≡ fresh_state n m = tell.left ∙ ap (λ (x : Stepped). x.after) is in
-    let head : (fresh_state n m).active_head ≡ b = sym (ap (λ (x : State). x.active_head) left) in
-    rw r (comes t u bytes z line out written at next (asked z line) b d (rw (fresh-accepted n m e)) (ap (sizes_after (asked z line)) head) left rest
-    (tell.text ∙ ap (λ (x : Stepped). sets out at (line_said line x.answer)) is)
-    (tell.end ∙ ap (λ (x : Stepped). place (length out) at (length (line_said line x.answer))) is)))
-    (λ e. let d = answering s (refused 1) in
-    let is : fresh (state_of (front n m t) z.active.0) ≡ refuse (state_of (front n m t) z.active.0) 1 = front-refused n m t z.active.0 sized e in
-    let r : renewed ≡ false = tell.anew ∙ ap (λ (x : Stepped). renews line x.answer) is in
-    let left : state_of (front n m u) b ≡ state_of (front n m t) z.active.0 = tell.left ∙ ap (λ (x : Stepped). x.after) is in
-    let head : z.active.0 ≡ b = sym (ap (λ (x : State). x.active_head) left) in
-    let same : u ≡ t = laid_same n m t u (ap (λ (x : State). x.tables) left) rest in
-    rw r (comes t u bytes z line out written at next z b d (rw (fresh-refused n m e)) (ap (sizes_after z) head)
-    (rw (same, ← head)) (rw same)
-    (tell.text ∙ ap (λ (x : Stepped). sets out at (line_said line x.answer)) is)
-    (tell.end ∙ ap (λ (x : Stepped). place (length out) at (length (line_said line x.answer))) is)))
+  -- a call on the tables that are there
+  plain : (line : Option Line) (renewed : Bool) → line_done (state_in h) line ≡ called (state_in h) line
+      → ((answer : Answer) → renews line answer ≡ false)
+      → TellsFront h.trial.n h.trial.m h.arrays h.trial.active.0 line out at u b renewed written next
+      → Does h line out at u (sizes_after (if renewed then h.trial else h.trial) b) written next
+  unfolding state_in trial_after
+  plain line renewed is never (tell, rest) =
+      let d = called (state_in h) line in
+      let r : renewed ≡ false = tell.anew ∙ never d.answer in
+      let head : b ≡ d.after.active_head = ap (λ (s : State). s.active_head) tell.left in
+      let after : trial_after h.trial line d ≡ sizes_after h.trial b = rw (never d.answer) (ap (sizes_after h.trial) (sym head)) in
+      rw r (comes line h.trial d is after tell.left rest (tell.text, tell.end))
 
--- ---- every line
+  -- new tables, or the old ones where they are refused
+  anew : (n m : ℕ) (renewed : Bool) → Sized array_blocks array_heads h.arrays
+      → TellsFront n m h.arrays h.trial.active.0 (Some (Fresh n m)) out at u b renewed written next
+      → Does h (Some (Fresh n m)) out at u (sizes_after (if renewed then asked h.trial (Some (Fresh n m)) else h.trial) b) written next
+  unfolding state_in trial_after called line_done unless_refused is_refused renews asked
+  anew n m renewed sized (tell, rest) =
+      let t = h.arrays in
+      let z = h.trial in
+      let line = Some (Fresh n m) in
+      let said : Stepped → List ℕ = λ x. line_said line x.answer in
+      let told : (d : Stepped) → fresh (state_of (front n m t) z.active.0) ≡ d → Put out at (said d) written next =
+      λ d is. (
+        tell.text ∙ ap (λ (x : Stepped). sets out at (said x)) is,
+        tell.end ∙ ap (λ (x : Stepped). place (length out) at (length (said x))) is,
+      ) in
+      split (shaped (fresh_state n m).tables)
+      (λ e. let d = answering (fresh_state n m) done in
+      let is : fresh (state_of (front n m t) z.active.0) ≡ d = front-accepted n m t z.active.0 sized e in
+      let r : renewed ≡ true = tell.anew ∙ ap (λ (x : Stepped). renews line x.answer) is in
+      let left : state_of (front n m u) b ≡ fresh_state n m = tell.left ∙ ap (λ (x : Stepped). x.after) is in
+      let head : (fresh_state n m).active_head ≡ b = sym (ap (λ (x : State). x.active_head) left) in
+      rw r (comes line (asked z line) d (rw (fresh-accepted n m e)) (ap (sizes_after (asked z line)) head) left rest
+      (told d is)))
+      (λ e. let d = answering (state_in h) (refused 1) in
+      let is : fresh (state_of (front n m t) z.active.0) ≡ refuse (state_of (front n m t) z.active.0) 1 =
+      front-refused n m t z.active.0 sized e in
+      let r : renewed ≡ false = tell.anew ∙ ap (λ (x : Stepped). renews line x.answer) is in
+      let left : state_of (front n m u) b ≡ state_of (front n m t) z.active.0 = tell.left ∙ ap (λ (x : Stepped). x.after) is in
+      let head : z.active.0 ≡ b = sym (ap (λ (x : State). x.active_head) left) in
+      let same : u ≡ t = laid_same n m t u (ap (λ (x : State). x.tables) left) rest in
+      rw r (comes line z d (rw (fresh-refused n m e)) (ap (sizes_after z) head) (rw (same, ← head)) (rw same)
+      (told (refuse (state_of (front n m t) z.active.0) 1) is)))
 
-line-comes : (t u : Tables) (bytes : List ℕ) (z : Trial) (line : Line) (out written : List ℕ) (at next : ℕ) (b : ℕ) (renewed : Bool) → Sized array_blocks array_heads t
-    → Tells (state_of (front (asked z line).n (asked z line).m t) z.active.0) line out at
-    (state_of (front (asked z line).n (asked z line).m u) b) renewed written next
-    → behind (asked z line).n (asked z line).m u ≡ behind (asked z line).n (asked z line).m t
-    → Comes (held_line (held_of t bytes z) line) (line_fed (state_in (held_of t bytes z)) line) out at
-    (held_of u bytes (sizes_after (if renewed then asked z line else z) b)) written next
-unfolding asked line_done renews
-line-comes t u bytes z (Fresh n m) out written at next b renewed sized tell rest = anew t u bytes z n m out written at next b renewed sized tell rest
-line-comes t u bytes z (Admit sequence hash previous arrival) out written at next b renewed sized tell rest = plain t u bytes z (Admit sequence hash previous arrival) out written at next b renewed refl (λ a. refl) tell rest
-line-comes t u bytes z (Promote slot) out written at next b renewed sized tell rest = plain t u bytes z (Promote slot) out written at next b renewed refl (λ a. refl) tell rest
-line-comes t u bytes z (Remove slot) out written at next b renewed sized tell rest = plain t u bytes z (Remove slot) out written at next b renewed refl (λ a. refl) tell rest
-line-comes t u bytes z (Under slot) out written at next b renewed sized tell rest = plain t u bytes z (Under slot) out written at next b renewed refl (λ a. refl) tell rest
-line-comes t u bytes z Screen out written at next b renewed sized tell rest = plain t u bytes z Screen out written at next b renewed refl (λ a. refl) tell rest
-line-comes t u bytes z (Timer now retry) out written at next b renewed sized tell rest = plain t u bytes z (Timer now retry) out written at next b renewed refl (λ a. refl) tell rest
-line-comes t u bytes z (Restart now) out written at next b renewed sized tell rest = plain t u bytes z (Restart now) out written at next b renewed refl (λ a. refl) tell rest
-line-comes t u bytes z Unread out written at next b renewed sized tell rest = plain t u bytes z Unread out written at next b renewed refl (λ a. refl) tell rest
+  -- ---- every line
 
-pub line-ends : (t u : Tables) (bytes : List ℕ) (z sizes y : Trial) (line : Line) (out written : List ℕ) (at next b : ℕ) (renewed : Bool)
-    → Tells (state_of (front sizes.n sizes.m t) z.active.0) line out at (state_of (front sizes.n sizes.m u) b) renewed written next
-    × (behind sizes.n sizes.m u ≡ behind sizes.n sizes.m t)
-    → sizes ≡ asked z line → y ≡ sizes_after (if renewed then sizes else z) b → Sized array_blocks array_heads t
-    → Comes (held_line (held_of t bytes z) line) (line_fed (state_in (held_of t bytes z)) line) out at (held_of u bytes y) written next
-line-ends t u bytes z sizes y line out written at next b renewed (tell, rest) e f sized =
-    rw (f, e) (line-comes t u bytes z line out written at next b renewed sized (rw e at tell) (rw e at rest))
+  line-comes : (line : Option Line) (renewed : Bool) → Sized array_blocks array_heads h.arrays
+      → TellsFront (asked h.trial line).n (asked h.trial line).m h.arrays h.trial.active.0 line out at u b renewed written next
+      → Does h line out at u (sizes_after (if renewed then asked h.trial line else h.trial) b) written next
+  unfolding asked line_done renews
+  line-comes (Some (Fresh n m)) renewed sized tells = anew n m renewed sized tells
+  line-comes (Some (Admit sequence hash previous arrival)) renewed sized tells =
+      plain (Some (Admit sequence hash previous arrival)) renewed refl (λ a. refl) tells
+  line-comes (Some (Promote slot)) renewed sized tells = plain (Some (Promote slot)) renewed refl (λ a. refl) tells
+  line-comes (Some (Remove slot)) renewed sized tells = plain (Some (Remove slot)) renewed refl (λ a. refl) tells
+  line-comes (Some (Under slot)) renewed sized tells = plain (Some (Under slot)) renewed refl (λ a. refl) tells
+  line-comes (Some Screen) renewed sized tells = plain (Some Screen) renewed refl (λ a. refl) tells
+  line-comes (Some (Timer now retry)) renewed sized tells = plain (Some (Timer now retry)) renewed refl (λ a. refl) tells
+  line-comes (Some (Restart now)) renewed sized tells = plain (Some (Restart now)) renewed refl (λ a. refl) tells
+  line-comes None renewed sized tells = plain None renewed refl (λ a. refl) tells
+
+  pub line-ends : (sizes z : Trial) (line : Option Line) (renewed : Bool)
+      → TellsFront sizes.n sizes.m h.arrays h.trial.active.0 line out at u b renewed written next
+      → sizes ≡ asked h.trial line → z ≡ sizes_after (if renewed then sizes else h.trial) b → Sized array_blocks array_heads h.arrays
+      → line ≡ line_begun (if leb h.trial.begun (length h.line) then so_far (take h.trial.begun h.line) else too_long)
+      → length h.line ≡ line_most → EndsLine h out at (held_with u h.line z) written next
+  unfolding held_ended ended session_in begun_in begun_of
+  line-ends sizes z line renewed tells asks after sized whole long =
+      let w : line ≡ line_begun (if leb h.trial.begun line_most then so_far (take h.trial.begun h.line) else too_long) = rw long at whole in
+      let does : Does h line out at u z written next = rw (after, asks) (line-comes line renewed sized (rw asks at tells)) in
+      rw w at does

@@ -7,10 +7,11 @@ use native.Mathlib.Omega.{arith}
 use lib.ListN.{length, get_or, take}
 use lib.Seq.{sets, take-suc, take_all}
 use Rattle.rules.proofs.Splits.{less?}
+use Rattle.trial_lines.specs.Begun.{chunk_most}
 use Rattle.trial_lines.specs.Writing.{place}
 use Rattle.trial_lines.proofs.Places.{put-none, put_then, sets-front}
 use Rattle.trial_session.specs.Session.{Session, Fed, fed_byte, fed, closing, start, transcript, in_chunks}
-use Rattle.trial_session.specs.Held.{Held, session_in, held_byte, held_fed, Comes, Fills}
+use Rattle.trial_session.specs.Held.{Held, session_in, held_byte, held_fed, Comes, Fills, TakesByte}
 
 abbrev fed_of : Session → List ℕ → Fed
 fed_of s said = record { session = s; said = said }
@@ -23,11 +24,14 @@ unfolding fed
 fed_then s [] ys = refl
 fed_then s (x ∷ xs) ys =
     let f = fed_byte s x in
+    let g = fed f.session xs in
+    let k = fed g.session ys in
     ap (λ (g : Fed). fed_of g.session (f.said ++ g.said)) (fed_then f.session xs ys)
-    ∙ ap (fed_of (fed (fed f.session xs).session ys).session) (sym (append_assoc f.said (fed f.session xs).said (fed (fed f.session xs).session ys).said))
+    ∙ ap (fed_of k.session) (sym (append_assoc f.said g.said k.said))
 
 -- a trial read in chunks prints what it prints read whole
-pub in-chunks : (s : Session) (chunks : List (List ℕ)) → in_chunks s chunks ≡ (fed s (flatten chunks)).said ++ closing (fed s (flatten chunks)).session
+pub in-chunks : (s : Session) (chunks : List (List ℕ))
+    → in_chunks s chunks ≡ (fed s (flatten chunks)).said ++ closing (fed s (flatten chunks)).session
 unfolding in_chunks fed flatten
 in-chunks s [] = refl
 in-chunks s (chunk ∷ chunks) =
@@ -58,14 +62,15 @@ comes-first h out = record { held = refl; session = refl; text = refl; end = (pu
 
 comes-next : (h g k : Held) (xs : List ℕ) (byte : ℕ) (out mid written : List ℕ) (at next : ℕ)
     → Comes (held_fed h xs) (fed (session_in h) xs) out 0 g mid at
-    → Comes (held_byte g byte) (fed_byte (session_in g) byte) mid at k written next
+    → TakesByte g byte mid at k written next
     → Comes (held_fed h (xs ++ byte ∷ [])) (fed (session_in h) (xs ++ byte ∷ [])) out 0 k written next
 unfolding held_fed
 comes-next h g k xs byte out mid written at next c d =
     let s = session_in h in
-    let f : fed s (xs ++ byte ∷ []) ≡ fed_of (fed_byte (session_in g) byte).session ((fed s xs).said ++ (fed_byte (session_in g) byte).said) =
+    let one = fed_byte (session_in g) byte in
+    let f : fed s (xs ++ byte ∷ []) ≡ fed_of one.session ((fed s xs).said ++ one.said) =
     fed_then s xs (byte ∷ []) ∙ rw (fed-one (fed s xs).session byte, ← c.session) in
-    let p = put_then out mid written (fed s xs).said (fed_byte (session_in g) byte).said 0 at next (c.text, c.end) (d.text, d.end) in
+    let p = put_then out mid written (fed s xs).said one.said 0 at next (c.text, c.end) (d.text, d.end) in
     record {
       held = d.held ∙ ap (λ (x : Held). held_byte x byte) c.held ∙ sym (held_then h xs (byte ∷ []));
       session = d.session ∙ sym (ap (λ (x : Fed). x.session) f);
@@ -73,22 +78,21 @@ comes-next h g k xs byte out mid written at next c d =
       end = p.1 ∙ ap (λ (x : Fed). place (length out) 0 (length x.said)) (sym f);
     }
 
-pub comes-turn : (h g k : Held) (bytes : List ℕ) (i byte : ℕ) (out mid written : List ℕ) (at next : ℕ) → i < length bytes → byte ≡ get_or bytes i 0
+pub comes-turn : (h g k : Held) (bytes : List ℕ) (i byte : ℕ) (out mid written : List ℕ) (at next : ℕ)
+    → i < length bytes → byte ≡ get_or bytes i 0
     → Comes (held_fed h (take i bytes)) (fed (session_in h) (take i bytes)) out 0 g mid at
-    → Comes (held_byte g byte) (fed_byte (session_in g) byte) mid at k written next
+    → TakesByte g byte mid at k written next
     → Comes (held_fed h (take (i + 1) bytes)) (fed (session_in h) (take (i + 1) bytes)) out 0 k written next
 comes-turn h g k bytes i byte out mid written at next l e c d =
     rw (add-one, take-suc bytes i 0 l, ← e) (comes-next h g k (take i bytes) byte out mid written at next c d)
 
-pub comes-all : (h g : Held) (bytes : List ℕ) (i most : ℕ) (out written : List ℕ) (next : ℕ)
-    → Comes (held_fed h (take i bytes)) (fed (session_in h) (take i bytes)) out 0 g written next → i ≡ min most (length bytes)
-    → Comes (held_fed h (take most bytes)) (fed (session_in h) (take most bytes)) out 0 g written next
-comes-all h g bytes i most out written next c is =
-    let e : take i bytes ≡ take most bytes =
-    less? (length bytes) most
-    (λ l. take_all i bytes (omega arith) ∙ sym (take_all most bytes (omega arith)))
-    (λ l. let q : i ≡ most = omega arith in ap (λ (x : ℕ). take x bytes) q) in
-    rw e at c
+-- after the last
+pub whole-taken : (bytes : List ℕ) (k i : ℕ) → k ≡ min (length bytes) chunk_most → length (take k bytes) ≤ i
+    → take i (take k bytes) ≡ take chunk_most bytes
+whole-taken bytes k i is all =
+    less? (length bytes) chunk_most
+    (λ l. take_all i (take k bytes) all ∙ take_all k bytes (omega arith) ∙ sym (take_all chunk_most bytes (omega arith)))
+    (λ l. let q : k ≡ chunk_most = omega arith in take_all i (take k bytes) all ∙ ap (λ (x : ℕ). take x bytes) q)
 
 -- ---- with room for all
 

@@ -7,10 +7,10 @@ use lib.ListN.{length, take, length-take}
 use Rattle.rules.specs.Records.{Tables}
 use Rattle.trial_lines.specs.Writing.{place}
 use Rattle.trial_lines.proofs.Places.{Put, put_then, sets-front}
-use Rattle.trial_fronts.specs.Fronts.{front}
+use Rattle.trial_fronts.specs.Fronts.{array_blocks, array_heads, Sized, front}
 use Rattle.trial_listing.specs.Listing.{listing_of}
 use Rattle.trial_session.specs.Session.{Session, last_ended, tables_listed, closing}
-use Rattle.trial_session.specs.Held.{array_blocks, array_heads, Held, state_in, session_in, held_closed, room, Comes, Closes}
+use Rattle.trial_session.specs.Held.{Held, state_in, session_in, room, EndsLast, Closes}
 use Rattle.trial_session.proofs.Room.{closing-short}
 
 abbrev shown : (n m : ℕ) → Tables → List ℕ
@@ -23,20 +23,22 @@ unfolding tables_listed front
 shown-is n m t = refl
 
 pub closes : (h g : Held) (out mid written : List ℕ) (at next : ℕ)
-    → Comes (held_closed h) (last_ended (session_in h)) out 0 g mid at
+    → EndsLast h out g mid at
     → Put mid at (shown g.trial.n g.trial.m g.arrays) written next
-    → length g.arrays.blocks.sequences ≤ array_blocks → length g.arrays.heads.tips ≤ array_heads → length out ≡ room
-    → Closes h out g.arrays written next
+    → Sized array_blocks array_heads g.arrays → length out ≡ room
+    → Closes h out g written next
 unfolding closing place front state_in session_in
-closes h g out mid written at next c p blocks heads room =
+closes h g out mid written at next c p z whole =
     let s = session_in h in
     let f = last_ended s in
-    let t : front g.trial.n g.trial.m g.arrays ≡ f.session.state.tables = ap (λ (x : Session). x.state.tables) c.session in
-    let e : shown g.trial.n g.trial.m g.arrays ≡ tables_listed f.session.state.tables = shown-is g.trial.n g.trial.m g.arrays ∙ ap tables_listed t in
-    let q = put_then out mid written f.said (tables_listed f.session.state.tables) 0 at next (c.text, c.end) (rw e at p) in
-    let b : length f.session.state.tables.blocks.sequences ≤ array_blocks =
-    rw (← t) (omega (arith, length-take g.trial.n g.arrays.blocks.sequences)) in
-    let k : length f.session.state.tables.heads.tips ≤ array_heads =
-    rw (← t) (omega (arith, length-take g.trial.m g.arrays.heads.tips)) in
+    let left = f.session.state.tables in
+    let n = g.trial.n in
+    let m = g.trial.m in
+    let t : front n m g.arrays ≡ left = ap (λ (x : Session). x.state.tables) c.session in
+    let e : shown n m g.arrays ≡ tables_listed left = shown-is n m g.arrays ∙ ap tables_listed t in
+    let q = put_then out mid written f.said (tables_listed left) 0 at next (c.text, c.end) (rw e at p) in
+    let b : length left.blocks.sequences ≤ array_blocks =
+    rw (← t) (omega (arith, length-take n g.arrays.blocks.sequences, z.blocks.sequences)) in
+    let k : length left.heads.tips ≤ array_heads = rw (← t) (omega (arith, length-take m g.arrays.heads.tips, z.heads.tips)) in
     let l = closing-short s array_blocks array_heads b k in
-    record { left = ap (λ (x : Held). x.arrays) c.held; text = q.0 ∙ sets-front (closing s) out (omega arith); end = q.1 ∙ omega arith }
+    record { held = c.held; text = q.0 ∙ sets-front (closing s) out (omega arith); end = q.1 ∙ omega arith }

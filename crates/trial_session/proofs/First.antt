@@ -1,4 +1,5 @@
 -- A session begins with no tables, and before an accepted N each call prints E 1 and changes nothing (01, "One trial whole").
+use Rattle.std.specs.Prelude.{Option, Some, None}
 use mathlib.Core.Path.{◌≡◌, refl}
 use mathlib.Core.Bool.{Bool, true, false}
 use mathlib.Core.List.{List}
@@ -9,36 +10,37 @@ use Rattle.rules.proofs.Splits.{true-not-false}
 use Rattle.trial_lines.specs.Begun.{begun_of}
 use Rattle.trial_lines.specs.Writing.{number_line}
 use Rattle.trial_lines.specs.declared.Line.{Line}
-use Rattle.trial_lines.specs.declared.Line.TheVariants.{Fresh, Admit, Promote, Remove, Under, Screen, Timer, Restart, Unread}
+use Rattle.trial_lines.specs.declared.Line.TheVariants.{Fresh, Admit, Promote, Remove, Under, Screen, Timer, Restart}
 use Rattle.trial_calls.specs.Calling.{called, done_said, line_said}
 use Rattle.trial_fronts.specs.Fronts.{front}
 use Rattle.trial_session.specs.Session.{line_done, line_fed, start}
-use Rattle.trial_session.specs.Held.{held_of, new_trial, state_in, begun_in, session_in}
+use Rattle.trial_session.specs.Held.{held_with, new_trial, state_in, begun_in, session_in}
 
 -- whatever stands in the arrays
-pub starts : (t : Tables) (line : List ℕ) → session_in (held_of t line new_trial) ≡ start
+pub starts : (t : Tables) (line : List ℕ) → session_in (held_with t line new_trial) ≡ start
 unfolding session_in state_in begun_in begun_of front start fresh_state empty_blocks empty_heads
 starts t line = refl
 
-abbrev pub asks_call : Line → Bool
-asks_call (Fresh n m) = false
-asks_call (Admit sequence hash previous arrival) = true
-asks_call (Promote slot) = true
-asks_call (Remove slot) = true
-asks_call (Under slot) = true
-asks_call Screen = true
-asks_call (Timer now retry) = true
-asks_call (Restart now) = true
-asks_call Unread = false
+abbrev pub asks_call : Option Line → Bool
+asks_call (Some (Fresh n m)) = false
+asks_call (Some (Admit sequence hash previous arrival)) = true
+asks_call (Some (Promote slot)) = true
+asks_call (Some (Remove slot)) = true
+asks_call (Some (Under slot)) = true
+asks_call (Some Screen) = true
+asks_call (Some (Timer now retry)) = true
+asks_call (Some (Restart now)) = true
+asks_call None = false
 
-pub before-first : (line : Line) → asks_call line ≡ true → line_fed start.state line ≡ record { session = start; said = number_line 69 1 }
+pub before-first : (line : Option Line) → asks_call line ≡ true
+    → line_fed start.state line ≡ record { session = start; said = number_line 69 1 }
 unfolding line_fed line_done line_said called done_said start step admit promote remove under screen timer restart shaped blocks_fit heads_fit fresh_state empty_blocks empty_heads
-before-first (Fresh n m) e = true-not-false e refl
-before-first (Admit sequence hash previous arrival) e = refl
-before-first (Promote slot) e = refl
-before-first (Remove slot) e = refl
-before-first (Under slot) e = refl
-before-first Screen e = refl
-before-first (Timer now retry) e = refl
-before-first (Restart now) e = refl
-before-first Unread e = true-not-false e refl
+before-first (Some (Fresh n m)) e = true-not-false e refl
+before-first (Some (Admit sequence hash previous arrival)) e = refl
+before-first (Some (Promote slot)) e = refl
+before-first (Some (Remove slot)) e = refl
+before-first (Some (Under slot)) e = refl
+before-first (Some Screen) e = refl
+before-first (Some (Timer now retry)) e = refl
+before-first (Some (Restart now)) e = refl
+before-first None e = true-not-false e refl

@@ -1,7 +1,7 @@
--- How much is printed: at most `print_most` bytes for each line. A line that has begun has a byte's part of that in reserve, and its end is
--- another byte; one that has not prints `?`. So it is at most `byte_most` for each byte that comes, and for what was kept in reserve. At the
--- end it is 96 more for each slot.
-use Rattle.std.specs.Prelude.{if◌then◌else◌}
+-- How much is printed: at most `print_most` bytes for each line. A line that has begun has a byte's part of that in reserve, and its
+-- end is another byte; one that has not prints `?`. So it is at most `byte_most` for each byte that comes, and for what was kept in
+-- reserve. At the end it is 96 more for each slot.
+use Rattle.std.specs.Prelude.{if◌then◌else◌, Option, Some, None}
 use mathlib.Core.Path.{◌≡◌, refl}
 use mathlib.Core.List.{List, [], ◌∷◌}
 use Prim.Native.Nat.{ℕ, ◌+◌, ◌*◌, ◌≤◌}
@@ -16,7 +16,7 @@ use Rattle.trial_lines.specs.Reading.{field_length, parse}
 use Rattle.trial_lines.specs.Writing.{letter_line, none_due_line}
 use Rattle.trial_lines.specs.Said.{said}
 use Rattle.trial_lines.specs.declared.Line.{Line}
-use Rattle.trial_lines.specs.declared.Line.TheVariants.{Fresh, Admit, Promote, Remove, Under, Screen, Timer, Restart, Unread}
+use Rattle.trial_lines.specs.declared.Line.TheVariants.{Fresh, Admit, Promote, Remove, Under, Screen, Timer, Restart}
 use Rattle.trial_lines.proofs.Short.{number_short, hanging-short, rows_short, request-short}
 use Rattle.trial_calls.specs.Calling.{called, done_said, line_said, is_refused}
 use Rattle.trial_calls.proofs.Shown.{rows_shown, called-few}
@@ -25,7 +25,8 @@ use Rattle.trial_session.specs.Session.{Session, unless_refused, line_done, line
 use Rattle.trial_session.specs.Held.{Held, session_in, held_fed, print_most, byte_most, room, Comes, Fills}
 use Rattle.trial_session.proofs.Chunks.{fills}
 
-said-short : (when_done : List ℕ) (answer : Answer) → length when_done ≤ 96 → rows_shown answer ≤ max_heads → length (said when_done answer) ≤ print_most
+said-short : (when_done : List ℕ) (answer : Answer) → length when_done ≤ 96 → rows_shown answer ≤ max_heads
+    → length (said when_done answer) ≤ print_most
 unfolding none_due_line
 said-short w (refused number) h few = omega (arith, number_short 69 number)
 said-short w done h few = omega arith
@@ -38,36 +39,36 @@ said-short w none_due h few = omega arith
 said-short w (due_at time) h few = omega arith
 said-short w never_due h few = omega arith
 
-done-short : (line : Line) → length (done_said line) ≤ 96
+done-short : (line : Option Line) → length (done_said line) ≤ 96
 unfolding done_said letter_line
-done-short (Fresh n m) = omega arith
-done-short (Admit sequence hash previous arrival) = omega arith
-done-short (Promote block) = number_short 80 block.0
-done-short (Remove block) = omega arith
-done-short (Under block) = omega arith
-done-short Screen = omega arith
-done-short (Timer now retry) = omega arith
-done-short (Restart now) = omega arith
-done-short Unread = omega arith
+done-short (Some (Fresh n m)) = omega arith
+done-short (Some (Admit sequence hash previous arrival)) = omega arith
+done-short (Some (Promote block)) = number_short 80 block.0
+done-short (Some (Remove block)) = omega arith
+done-short (Some (Under block)) = omega arith
+done-short (Some Screen) = omega arith
+done-short (Some (Timer now retry)) = omega arith
+done-short (Some (Restart now)) = omega arith
+done-short None = omega arith
 
 -- N shows none, refused or not
 fresh-few : (s : State) (n m : ℕ) → rows_shown (unless_refused s (fresh (fresh_state n m))).answer ≤ max_heads
 unfolding fresh is_refused unless_refused
 fresh-few s n m = split (shaped (fresh_state n m).tables) (λ e. rw e (omega arith)) (λ e. rw e (omega arith))
 
-done-few : (s : State) (line : Line) → rows_shown (line_done s line).answer ≤ max_heads
+done-few : (s : State) (line : Option Line) → rows_shown (line_done s line).answer ≤ max_heads
 unfolding line_done
-done-few s (Fresh n m) = fresh-few s n m
-done-few s (Admit sequence hash previous arrival) = called-few s (Admit sequence hash previous arrival)
-done-few s (Promote block) = called-few s (Promote block)
-done-few s (Remove block) = called-few s (Remove block)
-done-few s (Under block) = called-few s (Under block)
-done-few s Screen = called-few s Screen
-done-few s (Timer now retry) = called-few s (Timer now retry)
-done-few s (Restart now) = called-few s (Restart now)
-done-few s Unread = called-few s Unread
+done-few s (Some (Fresh n m)) = fresh-few s n m
+done-few s (Some (Admit sequence hash previous arrival)) = called-few s (Some (Admit sequence hash previous arrival))
+done-few s (Some (Promote block)) = called-few s (Some (Promote block))
+done-few s (Some (Remove block)) = called-few s (Some (Remove block))
+done-few s (Some (Under block)) = called-few s (Some (Under block))
+done-few s (Some Screen) = called-few s (Some Screen)
+done-few s (Some (Timer now retry)) = called-few s (Some (Timer now retry))
+done-few s (Some (Restart now)) = called-few s (Some (Restart now))
+done-few s None = called-few s None
 
-line-short : (s : State) (line : Line) → length (line_fed s line).said ≤ print_most
+line-short : (s : State) (line : Option Line) → length (line_fed s line).said ≤ print_most
 unfolding line_fed line_said
 line-short s line = said-short (done_said line) (line_done s line).answer (done-short line) (done-few s line)
 
@@ -134,10 +135,11 @@ closing-short s blocks heads b h =
 -- ---- a chunk
 
 -- what so many bytes make a session print has room
-pub feeds : (h g : Held) (bytes out written : List ℕ) (next : ℕ)
-    → Comes (held_fed h (take chunk_most bytes)) (fed (session_in h) (take chunk_most bytes)) out 0 g written next → length out ≡ room
+pub feeds : (h g : Held) (bytes came out written : List ℕ) (next : ℕ)
+    → Comes (held_fed h came) (fed (session_in h) came) out 0 g written next → came ≡ take chunk_most bytes → length out ≡ room
     → Fills (held_fed h (take chunk_most bytes)) (fed (session_in h) (take chunk_most bytes)) out g written next
-feeds h g bytes out written next c e =
-    fills (held_fed h (take chunk_most bytes)) g (fed (session_in h) (take chunk_most bytes)) out written next
-    (omega (arith, length-take chunk_most bytes, fed-short (session_in h) (take chunk_most bytes), reserve-short (session_in h).begun))
-    c
+feeds h g bytes came out written next c all e =
+    let taken = take chunk_most bytes in
+    fills (held_fed h taken) g (fed (session_in h) taken) out written next
+    (omega (arith, length-take chunk_most bytes, fed-short (session_in h) taken, reserve-short (session_in h).begun))
+    (rw all at c)

@@ -8,30 +8,10 @@ use borrow.Author.Tests.{eq-eqb, le-leb, leb-true, leb-false}
 use lib.Dec.{leb}
 use lib.ListN.{length, take, length-take, length-replicate}
 use Rattle.rules.specs.Hashes.{hash_length}
-use Rattle.rules.specs.Records.{Blocks, Heads, Tables, empty_blocks, empty_heads, blocks_fit, heads_fit}
+use Rattle.rules.specs.Records.{Tables, empty_blocks, empty_heads, blocks_fit, heads_fit}
 use Rattle.rules.specs.Calls.{max_blocks, min_heads, max_heads, shaped, fresh_state}
 use Rattle.rules.proofs.Splits.{split, and-true}
-use Rattle.trial_fronts.specs.Fronts.{front}
-use Rattle.trial_session.specs.Held.{array_blocks, array_heads}
-
-pub record SizedBlocks (n : ℕ) (b : Blocks) : Type 0 where
-  pub hashes : length b.hashes ≡ n * hash_length
-  pub parents : length b.parents ≡ n
-  pub sequences : length b.sequences ≡ n
-  pub counts : length b.counts ≡ n
-  pub flags : length b.flags ≡ n
-
-pub record SizedHeads (m : ℕ) (h : Heads) : Type 0 where
-  pub tips : length h.tips ≡ m
-  pub tails : length h.tails ≡ m
-  pub missing : length h.missing ≡ m * hash_length
-  pub requested : length h.requested ≡ m
-  pub arrivals : length h.arrivals ≡ m
-  pub connected : length h.connected ≡ m
-
-pub record Sized (n m : ℕ) (t : Tables) : Type 0 where
-  pub blocks : SizedBlocks n t.blocks
-  pub heads : SizedHeads m t.heads
+use Rattle.trial_fronts.specs.Fronts.{array_blocks, array_heads, Sized, front}
 
 -- their shape goes by n and m alone
 within : ℕ → ℕ → Bool
@@ -129,7 +109,9 @@ pub shaped-within : (k j : ℕ) → shaped (fresh_state k j).tables ≡ true →
 unfolding within
 shaped-within k j e =
     let w : within k j ≡ true = sym (sized-shape k j (fresh_state k j).tables (sized_fresh k j)) ∙ e in
-    let a = (and-true (leb 1 k && leb k max_blocks && leb min_heads j && leb j max_heads) true (and-true (leb 1 k && leb k max_blocks && leb min_heads j && leb j max_heads && true) true w).0).0 in
-    let b = and-true (leb 1 k && leb k max_blocks && leb min_heads j) (leb j max_heads) a in
-    let c = and-true (leb 1 k && leb k max_blocks) (leb min_heads j) b.0 in
+    let few = leb 1 k && leb k max_blocks in
+    let all = few && leb min_heads j && leb j max_heads in
+    let a = (and-true all true (and-true (all && true) true w).0).0 in
+    let b = and-true (few && leb min_heads j) (leb j max_heads) a in
+    let c = and-true few (leb min_heads j) b.0 in
     (leb-true k max_blocks (and-true (leb 1 k) (leb k max_blocks) c.0).1, leb-true j max_heads b.1)

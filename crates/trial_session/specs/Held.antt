@@ -1,27 +1,21 @@
 -- How a trial's arrays hold a session: the tables in use are the first slots of the arrays, and what has come of a line stands at the
 -- start of its buffer. What stands behind is left as it was.
-use Rattle.std.specs.Prelude.{◌≡◌, List, [], ◌∷◌, ◌++◌, ℕ, ◌+◌, ◌*◌, min, eqb, length, set, drop, if◌then◌else◌}
+use Rattle.std.specs.Prelude.{◌≡◌, List, [], ◌∷◌, ◌++◌, ℕ, ◌+◌, ◌*◌, min, eqb, length, set, drop, if◌then◌else◌, Option, Some, None}
 use Rattle.std.proofs.lemmas.List.Edits.{sets}
 use Rattle.rules.specs.Kinds.{BlockSlot}
 use Rattle.rules.specs.Records.{Tables, NONE}
-use Rattle.rules.specs.Calls.{State, Stepped, state_of, max_blocks, max_heads}
+use Rattle.rules.specs.Calls.{State, Stepped, state_of}
 use Rattle.trial_lines.specs.Begun.{line_most, chunk_most, Begun, has_begun, line_begun, begun_of}
 use Rattle.trial_lines.specs.Writing.{place}
 use Rattle.trial_lines.specs.declared.Line.{Line}
-use Rattle.trial_lines.specs.declared.Line.TheVariants.{Fresh, Admit, Promote, Remove, Under, Screen, Timer, Restart, Unread}
+use Rattle.trial_lines.specs.declared.Line.TheVariants.{Fresh, Admit, Promote, Remove, Under, Screen, Timer, Restart}
 use Rattle.trial_calls.specs.Calling.{renews}
-use Rattle.trial_fronts.specs.Fronts.{front, behind, before}
-use Rattle.trial_session.specs.Session.{line_done, Session, Fed, line_fed, fed_byte, fed, last_ended, closing}
+use Rattle.trial_fronts.specs.Fronts.{tables_in, front, behind, before}
+use Rattle.trial_session.specs.Session.{line_done, Session, Fed, ended, fed_byte, fed, last_ended, closing}
+use Rattle.trial_session.specs.declared.Session as declared_session
 use Rattle.trial_session.specs.declared.Trial.{Trial}
 
 -- ---- what is held
-
--- the arrays have one slot more than tables may have
-abbrev pub array_blocks : ℕ
-array_blocks = max_blocks + 1
-
-abbrev pub array_heads : ℕ
-array_heads = max_heads + 1
 
 pub record Held : Type 0 where
   pub arrays : Tables
@@ -32,8 +26,11 @@ pub record Held : Type 0 where
 abbrev pub new_trial : Trial
 new_trial = record { n = 0; m = 0; active = record { 0 = NONE }; begun = 0 }
 
-abbrev pub held_of : (arrays : Tables) (line : List ℕ) (trial : Trial) → Held
-held_of arrays line trial = record { arrays = arrays; line = line; trial = trial }
+abbrev pub held_with : (arrays : Tables) (line : List ℕ) (trial : Trial) → Held
+held_with arrays line trial = record { arrays = arrays; line = line; trial = trial }
+
+abbrev pub held_of : (session : declared_session.Session) → Held
+held_of z = held_with (tables_in z.arrays) z.line z.trial
 
 unfoldable pub state_in : (h : Held) → State
 state_in h = state_of (front h.trial.n h.trial.m h.arrays) h.trial.active.0
@@ -47,29 +44,29 @@ session_in h = record { state = state_in h; begun = begun_in h }
 -- ---- after a line
 
 -- the sizes that a line asks for: N its own
-unfoldable pub asked : (trial : Trial) (line : Line) → Trial
-asked z (Fresh n m) = record { n = n; m = m; active = z.active; begun = z.begun }
-asked z (Admit sequence hash previous arrival) = z
-asked z (Promote slot) = z
-asked z (Remove slot) = z
-asked z (Under slot) = z
-asked z Screen = z
-asked z (Timer now retry) = z
-asked z (Restart now) = z
-asked z Unread = z
+unfoldable pub asked : (trial : Trial) (line : Option Line) → Trial
+asked z (Some (Fresh n m)) = record { n = n; m = m; active = z.active; begun = z.begun }
+asked z (Some (Admit sequence hash previous arrival)) = z
+asked z (Some (Promote slot)) = z
+asked z (Some (Remove slot)) = z
+asked z (Some (Under slot)) = z
+asked z (Some Screen) = z
+asked z (Some (Timer now retry)) = z
+asked z (Some (Restart now)) = z
+asked z None = z
 
 -- a trial of these sizes with a new line before it
 unfoldable pub sizes_after : (trial : Trial) (active_head : BlockSlot) → Trial
 sizes_after z active_head = record { n = z.n; m = z.m; active = record { 0 = active_head }; begun = 0 }
 
-unfoldable pub trial_after : (trial : Trial) (line : Line) (done : Stepped) → Trial
+unfoldable pub trial_after : (trial : Trial) (line : Option Line) (done : Stepped) → Trial
 trial_after z line d = sizes_after (if renews line d.answer then asked z line else z) d.after.active_head
 
-unfoldable pub held_line : (h : Held) (line : Line) → Held
+unfoldable pub held_line : (h : Held) (line : Option Line) → Held
 held_line h line =
     let d = line_done (state_in h) line in
     let z = trial_after h.trial line d in
-    held_of (before d.after.tables (behind z.n z.m h.arrays)) h.line z
+    held_with (before d.after.tables (behind z.n z.m h.arrays)) h.line z
 
 unfoldable pub held_ended : (h : Held) → Held
 held_ended h = held_line h (line_begun (begun_in h))
@@ -79,7 +76,7 @@ held_ended h = held_line h (line_begun (begun_in h))
 unfoldable pub held_joined : (h : Held) (byte : ℕ) → Held
 held_joined h byte =
     let z = h.trial in
-    held_of h.arrays (set h.line z.begun byte) (record { n = z.n; m = z.m; active = z.active; begun = min (z.begun + 1) (line_most + 1) })
+    held_with h.arrays (set h.line z.begun byte) (record { n = z.n; m = z.m; active = z.active; begun = min (z.begun + 1) (line_most + 1) })
 
 unfoldable pub held_byte : (h : Held) (byte : ℕ) → Held
 held_byte h byte = if eqb byte 10 then held_ended h else held_joined h byte
@@ -122,15 +119,12 @@ pub record Fills (k : Held) (f : Fed) (out : List ℕ) (g : Held) (written : Lis
   pub text : written ≡ f.said ++ drop (length f.said) out
   pub end : next ≡ length f.said
 
--- what a line, a byte, bytes and the end of the input do to what is held
-abbrev pub DoesLine : (h : Held) (line : Line) (out : List ℕ) (at : ℕ) (g : Held) (written : List ℕ) (next : ℕ) → Type 0
-DoesLine h line out at g written next = Comes (held_line h line) (line_fed (state_in h) line) out at g written next
+-- what the end of a line, a byte, the end of the input and a chunk do to what is held
+abbrev pub EndsLine : (h : Held) (out : List ℕ) (at : ℕ) (g : Held) (written : List ℕ) (next : ℕ) → Type 0
+EndsLine h out at g written next = Comes (held_ended h) (ended (session_in h)) out at g written next
 
 abbrev pub TakesByte : (h : Held) (byte : ℕ) (out : List ℕ) (at : ℕ) (g : Held) (written : List ℕ) (next : ℕ) → Type 0
 TakesByte h byte out at g written next = Comes (held_byte h byte) (fed_byte (session_in h) byte) out at g written next
-
-abbrev pub TakesBytes : (h : Held) (bytes out : List ℕ) (g : Held) (written : List ℕ) (next : ℕ) → Type 0
-TakesBytes h bytes out g written next = Comes (held_fed h bytes) (fed (session_in h) bytes) out 0 g written next
 
 abbrev pub EndsLast : (h : Held) (out : List ℕ) (g : Held) (written : List ℕ) (next : ℕ) → Type 0
 EndsLast h out g written next = Comes (held_closed h) (last_ended (session_in h)) out 0 g written next
@@ -139,7 +133,7 @@ abbrev pub Feeds : (h : Held) (bytes out : List ℕ) (g : Held) (written : List 
 Feeds h bytes out g written next = Fills (held_fed h bytes) (fed (session_in h) bytes) out g written next
 
 -- the end of a trial, in a buffer that has room for all of it
-pub record Closes (h : Held) (out : List ℕ) (arrays : Tables) (written : List ℕ) (next : ℕ) : Type 0 where
-  pub left : arrays ≡ (held_closed h).arrays
+pub record Closes (h : Held) (out : List ℕ) (g : Held) (written : List ℕ) (next : ℕ) : Type 0 where
+  pub held : g ≡ held_closed h
   pub text : written ≡ closing (session_in h) ++ drop (length (closing (session_in h))) out
   pub end : next ≡ length (closing (session_in h))

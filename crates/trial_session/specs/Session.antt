@@ -1,10 +1,10 @@
 -- A trial (01, "One trial whole"): what a line does to a session, what a byte does, and what a whole input prints.
-use Rattle.std.specs.Prelude.{List, [], ◌∷◌, ◌++◌, ℕ, eqb, if◌then◌else◌}
+use Rattle.std.specs.Prelude.{List, [], ◌∷◌, ◌++◌, ℕ, eqb, if◌then◌else◌, Option, Some, None}
 use Rattle.rules.specs.Records.{Tables}
 use Rattle.rules.specs.Calls.{State, Stepped, answering, fresh_state, fresh}
 use Rattle.trial_lines.specs.Begun.{Begun, so_far, longer, has_begun, line_begun}
 use Rattle.trial_lines.specs.declared.Line.{Line}
-use Rattle.trial_lines.specs.declared.Line.TheVariants.{Fresh, Admit, Promote, Remove, Under, Screen, Timer, Restart, Unread}
+use Rattle.trial_lines.specs.declared.Line.TheVariants.{Fresh, Admit, Promote, Remove, Under, Screen, Timer, Restart}
 use Rattle.trial_calls.specs.Calling.{called, line_said, is_refused}
 use Rattle.trial_listing.specs.Listing.{listing_of}
 
@@ -15,16 +15,16 @@ unfoldable pub unless_refused : (s : State) (done : Stepped) → Stepped
 unless_refused s d = if is_refused d.answer then answering s d.answer else d
 
 -- N n m makes tables of n and m slots fresh; the other lines call on the tables that are there
-unfoldable pub line_done : (s : State) (line : Line) → Stepped
-line_done s (Fresh n m) = unless_refused s (fresh (fresh_state n m))
-line_done s (Admit sequence hash previous arrival) = called s (Admit sequence hash previous arrival)
-line_done s (Promote slot) = called s (Promote slot)
-line_done s (Remove slot) = called s (Remove slot)
-line_done s (Under slot) = called s (Under slot)
-line_done s Screen = called s Screen
-line_done s (Timer now retry) = called s (Timer now retry)
-line_done s (Restart now) = called s (Restart now)
-line_done s Unread = called s Unread
+unfoldable pub line_done : (s : State) (line : Option Line) → Stepped
+line_done s (Some (Fresh n m)) = unless_refused s (fresh (fresh_state n m))
+line_done s (Some (Admit sequence hash previous arrival)) = called s (Some (Admit sequence hash previous arrival))
+line_done s (Some (Promote slot)) = called s (Some (Promote slot))
+line_done s (Some (Remove slot)) = called s (Some (Remove slot))
+line_done s (Some (Under slot)) = called s (Some (Under slot))
+line_done s (Some Screen) = called s (Some Screen)
+line_done s (Some (Timer now retry)) = called s (Some (Timer now retry))
+line_done s (Some (Restart now)) = called s (Some (Restart now))
+line_done s None = called s None
 
 -- ---- a byte
 
@@ -38,7 +38,7 @@ pub record Fed : Type 0 where
   pub said : List ℕ
 
 -- a line is done, and the next begins
-unfoldable pub line_fed : (s : State) (line : Line) → Fed
+unfoldable pub line_fed : (s : State) (line : Option Line) → Fed
 line_fed s line =
     let d = line_done s line in
     record { session = record { state = d.after; begun = so_far [] }; said = line_said line d.answer }

@@ -2,3 +2,4 @@ pub mod Lists
 pub mod Levels
 pub mod Down
 pub mod Replies
+mod Higher

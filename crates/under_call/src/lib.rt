@@ -10,22 +10,9 @@ ghost use Rattle.rules.specs.Calls.{state_of, max_blocks, under as under_rule, D
 ghost use Rattle.under_call.specs.Lists.{Listed, Placed, down_from};
 
 use blocks::is_occupied;
-use cells::{put_word, slots, word_at};
+use cells::{cell_at, put_cell, slots};
 use rules::{BlockSlot, Hanging, Refusal, Sequence};
 use shape::is_shaped;
-
-// How many blocks were met, and the highest sequence among them.
-#[derive(Clone, Copy)]
-struct Met {
-    blocks: u32,
-    highest: Sequence,
-}
-
-fn higher(a: Sequence, b: Sequence) -> Sequence
-    ensures { result.0 ≡ max a.0 b.0 }
-{
-    if a.0 < b.0 { b } else { a }
-}
 
 // The block comes before its siblings in its parent's list.
 fn list_child(parents: &[u32], first: &mut [u32], next: &mut [u32], child: BlockSlot)
@@ -33,9 +20,9 @@ fn list_child(parents: &[u32], first: &mut [u32], next: &mut [u32], child: Block
         × (next.new
         ≡ set next.old child.0 (get_or first.old (parent_at parents.now child.0) NONE)) }
 {
-    let parent = word_at(parents, child.0);
-    put_word(next, child.0, word_at(first, parent));
-    put_word(first, parent, child.0);
+    let parent = cell_at(parents, child.0);
+    put_cell(next, child.0, cell_at(first, parent));
+    put_cell(first, parent, child.0);
 }
 
 // The highest child of each slot goes into `first`, the sibling next below a child into `next`; NONE_REF is none.
@@ -44,13 +31,10 @@ fn list_children(parents: &[u32], sequences: &[u32], first: &mut [u32], next: &m
         → Listed parents.now sequences.now (slots_of sequences.now) first.new
         next.new }
 {
-    let n = slots(sequences);
-    let mut i: u32 = 0;
-    while i < n {
+    for i in 0..slots(sequences) {
         if is_occupied(sequences, BlockSlot(i)) {
             list_child(parents, first, next, BlockSlot(i));
         }
-        i += 1;
     }
 }
 
@@ -62,7 +46,7 @@ fn go_down(
     next: &[u32; 1024],
     from: BlockSlot,
     levels: u32,
-) -> Met
+) -> Hanging
     requires { (levels ≤ max_blocks)
         × ((parents : List ℕ) × Placed parents sequences.now first.now next.now from.0) }
     ensures { (parents : List ℕ)
@@ -75,29 +59,30 @@ fn go_down(
     let mut left = levels;
     let mut blocks: u32 = 0;
     let mut highest = Sequence(0);
+    // A level less only where the last sibling is left behind, so that no range counts the turns.
     while left > 0 {
-        if child.0 == BlockSlot::NONE_REF.0 {
-            return Met { blocks, highest };
+        if child == BlockSlot::NONE_REF {
+            return Hanging { blocks, highest };
         }
         blocks += 1;
-        highest = higher(highest, Sequence(word_at(sequences, child.0)));
-        let below = BlockSlot(word_at(first, child.0));
-        let sibling = BlockSlot(word_at(next, child.0));
-        if sibling.0 == BlockSlot::NONE_REF.0 {
+        highest = highest.max(Sequence(cell_at(sequences, child.0)));
+        let below = BlockSlot(cell_at(first, child.0));
+        let sibling = BlockSlot(cell_at(next, child.0));
+        if sibling == BlockSlot::NONE_REF {
             child = below;
             left -= 1;
         } else {
             let met = go_down(sequences, first, next, below, left - 1);
             blocks += met.blocks;
-            highest = higher(highest, met.highest);
+            highest = highest.max(met.highest);
             child = sibling;
         }
     }
-    Met { blocks, highest }
+    Hanging { blocks, highest }
 }
 
 // A block, and what hangs under it, n levels with its own.
-fn met_under(parents: &[u32], sequences: &[u32], root: BlockSlot) -> Met
+fn met_under(parents: &[u32], sequences: &[u32], root: BlockSlot) -> Hanging
     requires { (slots_of sequences.now ≤ max_blocks) × (occupied sequences.now root.0 ≡ true) }
     ensures { (result.blocks ≡ length (hanging parents.now sequences.now root.0))
         × (result.highest.0
@@ -106,12 +91,12 @@ fn met_under(parents: &[u32], sequences: &[u32], root: BlockSlot) -> Met
     let mut first = [BlockSlot::NONE_REF.0; 1024];
     let mut next = [BlockSlot::NONE_REF.0; 1024];
     list_children(parents, sequences, &mut first, &mut next);
-    let below = BlockSlot(word_at(&first, root.0));
+    let below = BlockSlot(cell_at(&first, root.0));
     let met = go_down(sequences, &first, &next, below, slots(sequences) - 1);
-    let own = Sequence(word_at(sequences, root.0));
+    let own = Sequence(cell_at(sequences, root.0));
     let blocks = met.blocks + 1;
-    let highest = higher(own, met.highest);
-    Met { blocks, highest }
+    let highest = own.max(met.highest);
+    Hanging { blocks, highest }
 }
 
 // How many blocks hang under the slot, n levels with its own, a block met at several of them counted at each, and the highest sequence
@@ -129,7 +114,7 @@ pub fn under(
     arrivals: &[u64],
     connected: &[u8],
     slot: BlockSlot,
-) -> Hanging
+) -> Result<Hanging, Refusal>
     ensures { (active_head : ℕ) → Does (hanging_said result)
         (tables_of hashes.now parents.now sequences.now counts.now flags.now
         tips.now tails.now missing.now requested.now arrivals.now connected.now)
@@ -142,12 +127,10 @@ pub fn under(
         hashes, parents, sequences, counts, flags, tips, tails, missing, requested, arrivals,
         connected,
     ) {
-        return Hanging::Refused(Refusal::Shape);
+        return Err(Refusal::Shape);
     }
     if !is_occupied(sequences, slot) {
-        return Hanging::Refused(Refusal::NoBlock);
+        return Err(Refusal::NoBlock);
     }
-    let met = met_under(parents, sequences, slot);
-    let highest = met.highest;
-    Hanging::Blocks(met.blocks, highest)
+    Ok(met_under(parents, sequences, slot))
 }

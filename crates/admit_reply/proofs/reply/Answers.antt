@@ -1,67 +1,79 @@
 -- Each test in turn.
-use mathlib.Core.Path.{◌≡◌, sym, ap, ◌∙◌}
-use mathlib.Core.Bool.{true, false}
-use mathlib.Core.List.{List}
-use Prim.Native.Nat.{ℕ}
-use Rattle.rules.specs.Common.{is_some}
-use Rattle.rules.specs.Hashes.{zero_hash, same_hash}
+use mathlib.Core.Path.{◌≡◌, refl, sym}
+use mathlib.Core.Bool.{true, false, ◌&&◌}
+use native.Mathlib.Omega.{arith}
+use lib.Dec.{eqb}
+use lib.ListN.{length}
+use borrow.Author.Tests.{eq-eqb}
+use Rattle.std.specs.Prelude.{Option, None, Some, is_some}
+use Rattle.std.proofs.lemmas.Bool.Decides.{nat_tests}
+use Rattle.rules.specs.declared.BlockSlot.{BlockSlot}
+use Rattle.rules.specs.Hashes.{hash_length, zero_hash, same_hash}
 use Rattle.rules.specs.BlockTable.{find}
-use Rattle.rules.specs.Calls.{state_of}
-use Rattle.rules.specs.Records.{tables_of}
+use Rattle.rules.specs.Answers.{slot_found}
+use Rattle.rules.specs.Calls.{admit}
 use Rattle.admit_reply.proofs.OwnHash.{own-hash}
-use Rattle.admit_reply.proofs.Tested.{misshapen, hash-cut, previous-cut, reserved, zeros, there, full, placed}
 use Rattle.admit_reply.proofs.reply.Goals as goal
 
 pub returns-then-not-is_shaped : goal.returns-then-not-is_shaped
-returns-then-not-is_shaped c =
-    let e = sym c.is_shaped.ensures ∙ c.if-not-is_shaped.true in
-    λ a r. misshapen (state_of (tables_of c.args.hashes.now c.args.parents.now c.args.sequences.now c.args.counts.now c.args.flags.now c.args.tips.now c.args.tails.now c.args.missing.now c.args.requested.now c.args.arrivals.now c.args.connected.now) a) c.args.sequence.0 c.args.hash.now c.args.previous.now _ e
+unfolding admit
+returns-then-not-is_shaped c a r = rw (sym c.if-not-is_shaped.ensures)
 
 pub returns-then-hash-ne32 : goal.returns-then-hash-ne32
-returns-then-hash-ne32 c =
-    let e = sym c.is_shaped.ensures ∙ c.if-not-is_shaped.false in
-    λ a r. hash-cut (state_of (tables_of c.args.hashes.now c.args.parents.now c.args.sequences.now c.args.counts.now c.args.flags.now c.args.tips.now c.args.tails.now c.args.missing.now c.args.requested.now c.args.arrivals.now c.args.connected.now) a) c.args.sequence.0 c.args.hash.now c.args.previous.now _ e c.if-hash-ne32.true
+unfolding admit
+returns-then-hash-ne32 c a r =
+    let cut : (eqb (length c.args.hash.now) hash_length && eqb (length c.args.previous.now) hash_length) ≡ false =
+    grind (arith, nat_tests) in
+    rw (sym c.if-not-is_shaped.ensures, cut)
 
-pub returns-then-previous-ne32 : goal.returns-then-previous-ne32
-returns-then-previous-ne32 c =
-    let e = sym c.is_shaped.ensures ∙ c.if-not-is_shaped.false in
-    λ a r. previous-cut (state_of (tables_of c.args.hashes.now c.args.parents.now c.args.sequences.now c.args.counts.now c.args.flags.now c.args.tips.now c.args.tails.now c.args.missing.now c.args.requested.now c.args.arrivals.now c.args.connected.now) a) c.args.sequence.0 c.args.hash.now c.args.previous.now _ e c.if-hash-ne32.false c.if-previous-ne32.true
-
-pub returns-then-sequence : goal.returns-then-sequence
-returns-then-sequence c =
-    let e = sym c.is_shaped.ensures ∙ c.if-not-is_shaped.false in
-    λ a r. reserved (state_of (tables_of c.args.hashes.now c.args.parents.now c.args.sequences.now c.args.counts.now c.args.flags.now c.args.tips.now c.args.tails.now c.args.missing.now c.args.requested.now c.args.arrivals.now c.args.connected.now) a) c.args.sequence.0 c.args.hash.now c.args.previous.now _ e c.if-hash-ne32.false c.if-previous-ne32.false c.if-sequence.true
+pub returns-then-eq : goal.returns-then-eq
+unfolding admit
+returns-then-eq c a r =
+    let e = sym c.if-not-is_shaped.ensures in
+    rw (e, eq-eqb _ _ c.if-hash-ne32.false, eq-eqb _ _ c.if-previous-ne32.false, sym c.if-eq.ensures)
 
 pub returns-then-same_hash : goal.returns-then-same_hash
-returns-then-same_hash c =
-    let e = sym c.is_shaped.ensures ∙ c.if-not-is_shaped.false in
-    let o : c.hash_at-own.result ≡ c.args.hash.now = c.hash_at-own.ensures ∙ own-hash c.args.hash.now c.if-hash-ne32.false in
-    let z : same_hash c.args.hash.now zero_hash ≡ true = ap (λ (x : List ℕ). same_hash x zero_hash) (sym o) ∙ sym c.same_hash.ensures ∙ c.if-same_hash.true in
-    λ a r. zeros (state_of (tables_of c.args.hashes.now c.args.parents.now c.args.sequences.now c.args.counts.now c.args.flags.now c.args.tips.now c.args.tails.now c.args.missing.now c.args.requested.now c.args.arrivals.now c.args.connected.now) a) c.args.sequence.0 c.args.hash.now c.args.previous.now _ e c.if-hash-ne32.false c.if-previous-ne32.false c.if-sequence.false z
+unfolding admit
+returns-then-same_hash c a r =
+    let e = sym c.if-not-is_shaped.ensures in
+    let o = own-hash c.args.hash.now c.if-hash-ne32.false in
+    let z : same_hash c.args.hash.now zero_hash ≡ true = cc in
+    rw (e, eq-eqb _ _ c.if-hash-ne32.false, eq-eqb _ _ c.if-previous-ne32.false, sym c.if-eq.ensures, z)
 
-pub returns-then-is_known : goal.returns-then-is_known
-returns-then-is_known c =
-    let e = sym c.is_shaped.ensures ∙ c.if-not-is_shaped.false in
-    let o : c.hash_at-own.result ≡ c.args.hash.now = c.hash_at-own.ensures ∙ own-hash c.args.hash.now c.if-hash-ne32.false in
-    let z : same_hash c.args.hash.now zero_hash ≡ false = ap (λ (x : List ℕ). same_hash x zero_hash) (sym o) ∙ sym c.same_hash.ensures ∙ c.if-same_hash.false in
-    let k : is_some (find c.args.hashes.now c.args.sequences.now c.args.sequence.0 c.args.hash.now) ≡ true =
-    ap (λ (x : List ℕ). is_some (find c.args.hashes.now c.args.sequences.now c.args.sequence.0 x)) (sym o) ∙ sym c.is_known.ensures ∙ c.if-is_known.true in
-    λ a r. there (state_of (tables_of c.args.hashes.now c.args.parents.now c.args.sequences.now c.args.counts.now c.args.flags.now c.args.tips.now c.args.tails.now c.args.missing.now c.args.requested.now c.args.arrivals.now c.args.connected.now) a) c.args.sequence.0 c.args.hash.now c.args.previous.now _ e c.if-hash-ne32.false c.if-previous-ne32.false c.if-sequence.false z k
+some-found : (r : Option BlockSlot) → is_some (slot_found r) ≡ is_some r
+some-found None = refl
+some-found (Some s) = refl
 
-pub returns-in-Nothing : goal.returns-in-Nothing
-returns-in-Nothing c =
-    let e = sym c.is_shaped.ensures ∙ c.if-not-is_shaped.false in
-    let o : c.hash_at-own.result ≡ c.args.hash.now = c.hash_at-own.ensures ∙ own-hash c.args.hash.now c.if-hash-ne32.false in
-    let z : same_hash c.args.hash.now zero_hash ≡ false = ap (λ (x : List ℕ). same_hash x zero_hash) (sym o) ∙ sym c.same_hash.ensures ∙ c.if-same_hash.false in
-    let k : is_some (find c.args.hashes.now c.args.sequences.now c.args.sequence.0 c.args.hash.now) ≡ false =
-    ap (λ (x : List ℕ). is_some (find c.args.hashes.now c.args.sequences.now c.args.sequence.0 x)) (sym o) ∙ sym c.is_known.ensures ∙ c.if-is_known.false in
-    λ a r. full (state_of (tables_of c.args.hashes.now c.args.parents.now c.args.sequences.now c.args.counts.now c.args.flags.now c.args.tips.now c.args.tails.now c.args.missing.now c.args.requested.now c.args.arrivals.now c.args.connected.now) a) c.args.sequence.0 c.args.hash.now c.args.previous.now _ e c.if-hash-ne32.false c.if-previous-ne32.false c.if-sequence.false z k (sym c.in-Nothing.ensures)
+pub returns-then-is_some : goal.returns-then-is_some
+unfolding admit
+returns-then-is_some c a r =
+    let e = sym c.if-not-is_shaped.ensures in
+    let o = own-hash c.args.hash.now c.if-hash-ne32.false in
+    let z : same_hash c.args.hash.now zero_hash ≡ false = cc in
+    let s = some-found c.find.result in
+    let k : is_some (find c.args.hashes.now c.args.sequences.now c.args.sequence.0 c.args.hash.now) ≡ true = cc in
+    rw (e, eq-eqb _ _ c.if-hash-ne32.false, eq-eqb _ _ c.if-previous-ne32.false, sym c.if-eq.ensures, z, k)
 
-pub returns-in-At : goal.returns-in-At
-returns-in-At c =
-    let e = sym c.is_shaped.ensures ∙ c.if-not-is_shaped.false in
-    let o : c.hash_at-own.result ≡ c.args.hash.now = c.hash_at-own.ensures ∙ own-hash c.args.hash.now c.if-hash-ne32.false in
-    let z : same_hash c.args.hash.now zero_hash ≡ false = ap (λ (x : List ℕ). same_hash x zero_hash) (sym o) ∙ sym c.same_hash.ensures ∙ c.if-same_hash.false in
-    let k : is_some (find c.args.hashes.now c.args.sequences.now c.args.sequence.0 c.args.hash.now) ≡ false =
-    ap (λ (x : List ℕ). is_some (find c.args.hashes.now c.args.sequences.now c.args.sequence.0 x)) (sym o) ∙ sym c.is_known.ensures ∙ c.if-is_known.false in
-    λ a r. placed (state_of (tables_of c.args.hashes.now c.args.parents.now c.args.sequences.now c.args.counts.now c.args.flags.now c.args.tips.now c.args.tails.now c.args.missing.now c.args.requested.now c.args.arrivals.now c.args.connected.now) a) c.args.sequence.0 c.args.hash.now c.args.previous.now _ e c.if-hash-ne32.false c.if-previous-ne32.false c.if-sequence.false z k _ (sym c.in-At.ensures)
+slot? {ℓ} : {A : Type ℓ} (r : Option BlockSlot) → (r ≡ None → A) → ((s : BlockSlot) → r ≡ Some s → A) → A
+slot? None f g = f refl
+slot? (Some s) f g = g s refl
+
+pub returns : goal.returns
+unfolding admit
+returns c a r =
+    let e = sym c.if-not-is_shaped.ensures in
+    let o = own-hash c.args.hash.now c.if-hash-ne32.false in
+    let z : same_hash c.args.hash.now zero_hash ≡ false = cc in
+    let s = some-found c.find.result in
+    let k : is_some (find c.args.hashes.now c.args.sequences.now c.args.sequence.0 c.args.hash.now) ≡ false = cc in
+    rw (
+      e,
+      eq-eqb _ _ c.if-hash-ne32.false,
+      eq-eqb _ _ c.if-previous-ne32.false,
+      sym c.if-eq.ensures,
+      z,
+      k,
+      c.ok_or.ensures.value,
+      ← c.next_free_index.ensures,
+    )
+    (slot? c.next_free_index.result (λ n. rw n) (λ i n. rw n))

@@ -1,24 +1,15 @@
 -- The heads before `k` are done.
-use borrow.Author.Rules.{rules}
-use native.Mathlib.Omega.{arith}
-use mathlib.Core.Path.{◌≡◌, sym, ◌∙◌}
+use Rattle.std.proofs.Common.{rules}
 use Rattle.rules.specs.Caches.{recompute_all}
 use Rattle.rules.proofs.Search.{in-order-none, in-order-next}
 use Rattle.all_caches.proofs.recompute_all_caches.Goals as goal
 
 pub loop-k-init : goal.loop-k-init
-loop-k-init c = record { within = omega arith; lengths = omega arith; done = sym (in-order-none _ _) }
+loop-k-init c = search (rules, in-order-none)
 
 pub loop-k-preserved : goal.loop-k-preserved
-loop-k-preserved c =
-    record {
-      within = omega arith;
-      lengths = search rules;
-      done = c.recompute_used.ensures ∙ rw (c.loop-k.invariant.done, in-order-next);
-    }
+loop-k-preserved c = search (rules, in-order-next)
 
 pub returns : goal.returns
 unfolding recompute_all
-returns c =
-    let e : c.loop-k.k ≡ c.slots-m.result = omega arith in
-    rw (← c.slots-m.ensures, ← e) c.loop-k.invariant.done
+returns c = search rules

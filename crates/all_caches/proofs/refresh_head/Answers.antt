@@ -1,17 +1,12 @@
 -- The lowest head with this tip, if there is one.
-use mathlib.Core.Path.{sym, ap, ◌∙◌}
-use Rattle.rules.specs.Answers.{head_found}
+use Rattle.std.proofs.Common.{rules}
 use Rattle.rules.specs.Caches.{refresh_head}
 use Rattle.all_caches.proofs.refresh_head.Goals as goal
 
-pub returns-in-At : goal.returns-in-At
+pub returns-in-Some : goal.returns-in-Some
 unfolding refresh_head
-returns-in-At c =
-    let f = sym c.slot_of_head.ensures ∙ ap head_found c.in-At.is in
-    rw (f, refresh_head) c.recompute_alone.ensures
+returns-in-Some c = search rules
 
-pub returns-in-Nothing : goal.returns-in-Nothing
+pub returns-in_default : goal.returns-in_default
 unfolding refresh_head
-returns-in-Nothing c =
-    let f = sym c.slot_of_head.ensures ∙ ap head_found c.in-Nothing.is in
-    rw (f, refresh_head)
+returns-in_default c = search rules

@@ -1,12 +1,9 @@
 -- What is left to visit from the present block decides.
-use Prim.Native.Nat.{◌≤◌, ◌-◌}
-use mathlib.Core.Path.{◌≡◌}
-use Rattle.rules.specs.Anchor.{anchor_from}
+use Rattle.std.proofs.Common.{◌≡◌, ◌-◌}
+use Rattle.rules.specs.Anchor.{anchor_from, locate_anchor}
 use Rattle.anchor.proofs.locate_by_total_reads.Given as goal
 
-abbrev pub invariant-loop-visits : goal.invariant-loop-visits
-invariant-loop-visits l = (l.visits ≤ l.n) ×
-    (anchor_from l.parents l.sequences l.flags l.n l.initial.last l.initial.current ≡ anchor_from l.parents l.sequences l.flags (l.n - l.visits) l.last l.current)
-
-abbrev pub decreases-loop-visits : goal.decreases-loop-visits
-decreases-loop-visits l = l.n - l.visits
+abbrev pub invariant-loop : goal.invariant-loop
+invariant-loop l =
+    anchor_from l.parents l.sequences l.flags (l.end - l.counter) l.last.0 l.current.0
+    ≡ locate_anchor l.parents l.sequences l.flags l.fn.start.0

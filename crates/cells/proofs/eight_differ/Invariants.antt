@@ -1,5 +1,5 @@
 -- `differ` tells of the slots before `j`.
-use Prim.Native.Nat.{ℕ, ◌≤◌, ◌<◌, ◌-◌, ◌+◌}
+use Prim.Native.Nat.{ℕ, ◌<◌, ◌+◌}
 use mathlib.Core.Path.{◌≡◌}
 use mathlib.Core.Logic.{◌≢◌}
 use mathlib.Core.Bool.{true}
@@ -8,8 +8,4 @@ use Rattle.rules.specs.Records.{NONE}
 use Rattle.cells.proofs.eight_differ.Given as goal
 
 abbrev pub invariant-loop-j : goal.invariant-loop-j
-invariant-loop-j l = (l.first ≡ l.from) × ((l.j ≤ 8) ×
-    (l.differ ≡ true → (i : ℕ) → i < l.j → get_or l.words (l.from + i) NONE ≢ l.value))
-
-abbrev pub decreases-loop-j : goal.decreases-loop-j
-decreases-loop-j l = 8 - l.j
+invariant-loop-j l = l.differ ≡ true → (i : ℕ) → i < l.j → get_or l.words (l.from + i) NONE ≢ l.value

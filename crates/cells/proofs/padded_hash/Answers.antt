@@ -4,5 +4,4 @@ use Rattle.rules.proofs.Hashes.{hash-is}
 use Rattle.cells.proofs.padded_hash.Goals as goal
 
 pub returns : goal.returns
-returns c =
-    hash-is c.args.bytes.now c.loop-k.hash c.args.at c.loop-k.invariant.1.1.0 (λ k lt. c.loop-k.invariant.1.1.1 k (omega arith))
+returns c = hash-is c.args.bytes.now c.loop-k.hash c.args.at c.loop-k.invariant.0 (λ k lt. c.loop-k.invariant.1 k (omega arith))

@@ -1,35 +1,21 @@
--- None of the slots before `i` is a child.
+-- One child at least, where some slot passes.
+use Rattle.std.proofs.Common.{rules, refl}
+use borrow.Author.Tests.{tests}
 use native.Mathlib.Omega.{arith}
-use mathlib.Core.Path.{◌≡◌, sym, ◌∙◌}
-use mathlib.Core.Logic.{◌≢◌}
-use borrow.Author.Tests.{ne_eqb}
-use Rattle.rules.specs.Common.{count_below}
+use mathlib.Core.List.{map-id}
+use Rattle.std.specs.List.{range_with_len}
+use Rattle.std.proofs.lemmas.Iterator.{YieldsList-from_range, YieldsList-from_map_by}
+use Rattle.std.proofs.lemmas.Iterator.Search.{any_from_yields_List}
 use Rattle.rules.specs.Records.{slots_of}
 use Rattle.rules.specs.BlockTable.{child_of, children, childless}
-use Rattle.rules.proofs.Search.{count_none, count-fails}
-use Rattle.rules.proofs.Each.{count-some}
+use Rattle.children.proofs.Some.{any-counted}
 use Rattle.children.proofs.has_child.Goals as goal
-
-pub loop-i-init : goal.loop-i-init
-loop-i-init c = (omega arith, count_none _)
-
-pub returns-then-is_child : goal.returns-then-is_child
-unfolding childless children
-returns-then-is_child c =
-    let test = child_of c.args.parents.now c.args.sequences.now c.args.slot.0 in
-    let n = slots_of c.args.sequences.now in
-    let h : count_below test n ≢ 0 = omega (
-      arith,
-      count-some test n c.loop-i.i (omega (arith, c.slots-n.ensures)) (sym c.is_child.ensures ∙ c.if-is_child.true),
-    ) in
-    rw (ne_eqb (count_below test n) 0 h)
-
-pub loop-i-preserved : goal.loop-i-preserved
-loop-i-preserved c =
-    (omega arith, count-fails _ c.loop-i.i (sym c.is_child.ensures ∙ c.if-is_child.false) ∙ c.loop-i.invariant.1)
 
 pub returns : goal.returns
 unfolding childless children
 returns c =
-    let e : c.loop-i.i ≡ c.slots-n.result = omega arith in
-    rw (← c.slots-n.ensures, ← e, c.loop-i.invariant.1)
+    let test = child_of c.args.parents.now c.args.sequences.now c.args.slot.0 in
+    let n = slots_of c.args.sequences.now in
+    rw (← any-counted test n, ← map-id (range_with_len 0 n)) (any_from_yields_List test _ _ _ c.any.ensures.ran
+    (YieldsList-from_map_by _ (λ s. s.0) (λ j. j) (YieldsList-from_range _ _ n c.map.ensures.source (omega (arith, c.slots.ensures))) refl
+    (λ x y q k. search rules)) (λ x b q k. search (rules, tests)))

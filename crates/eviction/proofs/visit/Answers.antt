@@ -1,33 +1,20 @@
 -- What the count says, and the flag.
-use mathlib.Core.Path.{sym, ap, ◌∙◌}
-use Rattle.rules.specs.Records.{blocks_of}
-use Rattle.rules.specs.Answers.{count_got}
-use Rattle.eviction.proofs.Walk.{visit-empty, visit-active, visit-shared, visit-frees}
+use mathlib.Core.Path.{sym, ◌∙◌}
+use Rattle.eviction.proofs.Walk.{visit-empty, visit-stops, visit-frees}
 use Rattle.eviction.proofs.visit.Goals as goal
+
+pub returns-in_err-count : goal.returns-in_err-count
+returns-in_err-count c =
+    rw c.from_residual.ensures
+    (visit-empty _ _ _ c.adjust_head_ref_count.ensures.1 (sym c.in_err-count.was ∙ c.adjust_head_ref_count.ensures.0))
 
 pub returns-then-kept : goal.returns-then-kept
 returns-then-kept c =
-    let b = blocks_of c.args.hashes.now c.args.parents.now c.args.sequences.now c.args.counts.now c.args.flags.now in
-    let v = visit-active b c.args.slot.0 _ (sym c.adjust_head_ref_count.ensures.0 ∙ ap count_got c.in-Count.is)
-    (sym c.is_on_active_chain-kept.ensures ∙ c.if-kept.true) in
-    (v.0, rw c.adjust_head_ref_count.ensures.1 v.1)
+    visit-stops _ _ _ c.adjust_head_ref_count.ensures.1 (sym c.in_ok-count.was ∙ c.adjust_head_ref_count.ensures.0)
+    c.is_on_active_chain-kept.ensures c.then-kept.either
 
-pub returns-then-count-ne0 : goal.returns-then-count-ne0
-returns-then-count-ne0 c =
-    let b = blocks_of c.args.hashes.now c.args.parents.now c.args.sequences.now c.args.counts.now c.args.flags.now in
-    let v = visit-shared b c.args.slot.0 _ (sym c.adjust_head_ref_count.ensures.0 ∙ ap count_got c.in-Count.is)
-    (sym c.is_on_active_chain-kept.ensures ∙ c.if-kept.false) c.if-count-ne0.true in
-    (v.0, rw c.adjust_head_ref_count.ensures.1 v.1)
-
-pub returns-in-Nothing : goal.returns-in-Nothing
-returns-in-Nothing c =
-    let b = blocks_of c.args.hashes.now c.args.parents.now c.args.sequences.now c.args.counts.now c.args.flags.now in
-    let v = visit-empty b c.args.slot.0 (sym c.adjust_head_ref_count.ensures.0 ∙ ap count_got c.in-Nothing.is) in
-    (v.0, rw c.adjust_head_ref_count.ensures.1 v.1)
-
-pub returns-else-count-ne0 : goal.returns-else-count-ne0
-returns-else-count-ne0 c =
-    let b = blocks_of c.args.hashes.now c.args.parents.now c.args.sequences.now c.args.counts.now c.args.flags.now in
-    let v = visit-frees b c.args.slot.0 _ (sym c.adjust_head_ref_count.ensures.0 ∙ ap count_got c.in-Count.is)
-    (sym c.is_on_active_chain-kept.ensures ∙ c.if-kept.false) c.if-count-ne0.false in
-    (rw c.word_at.ensures v.0, c.delete.ensures.1 ∙ rw c.adjust_head_ref_count.ensures.1 v.1)
+pub returns : goal.returns
+returns c =
+    let v = visit-frees _ _ _ c.adjust_head_ref_count.ensures.1 (sym c.in_ok-count.was ∙ c.adjust_head_ref_count.ensures.0)
+    c.is_on_active_chain-kept.ensures c.if-kept.false c.if-count-ne0.false in
+    (rw c.cell_at.ensures v.0, c.delete.ensures.1 ∙ v.1)

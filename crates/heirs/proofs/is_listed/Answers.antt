@@ -1,17 +1,15 @@
--- What is left to compare.
-use native.Mathlib.Omega.{arith}
-use mathlib.Core.Path.{refl, sym, ◌∙◌}
-use Rattle.rules.proofs.Freed.{listed_here, listed_next, listed-end}
+-- One of the list's elements is the block.
+use Rattle.std.specs.Prelude.{◌≡◌, List, [], ◌∷◌, ℕ, eqb, refl}
+use Rattle.std.specs.List.{list_any}
+use Rattle.std.proofs.Common.{◌∙◌}
+use Rattle.rules.specs.Removal.{listed}
+use Rattle.rules.proofs.Splits.{split}
 use Rattle.heirs.proofs.is_listed.Goals as goal
 
-pub loop-at-init : goal.loop-at-init
-loop-at-init c = (omega arith, refl)
-
-pub returns-then-deleted-at : goal.returns-then-deleted-at
-returns-then-deleted-at c = sym (listed_here c.args.deleted.now c.loop-at.at c.args.slot.0 (omega arith) c.if-deleted-at.true) ∙ c.loop-at.invariant.1
-
-pub loop-at-preserved : goal.loop-at-preserved
-loop-at-preserved c = (omega arith, sym (listed_next c.args.deleted.now c.loop-at.at c.args.slot.0 (omega arith) c.if-deleted-at.false) ∙ c.loop-at.invariant.1)
+any_listed : (xs : List ℕ) (i : ℕ) → list_any (λ x. eqb x i) xs ≡ listed xs i
+unfolding listed
+any_listed [] i = refl
+any_listed (x ∷ xs) i = split (eqb x i) (λ e. rw e) (λ e. rw e (any_listed xs i))
 
 pub returns : goal.returns
-returns c = sym (listed-end c.args.deleted.now c.loop-at.at c.args.slot.0 (omega arith)) ∙ c.loop-at.invariant.1
+returns c = c.contains.ensures.value ∙ any_listed _ _

@@ -1,16 +1,13 @@
 -- The heads before `k` are done.
-use Prim.Native.Nat.{◌-◌}
-use mathlib.Core.Path.{◌≡◌}
+use Rattle.std.proofs.Common.{◌≡◌}
 use Rattle.rules.specs.Common.{in_order}
 use Rattle.rules.specs.Records.{tables_of}
 use Rattle.rules.specs.Admission.{link_late}
-use Rattle.rules.proofs.Loops.{SameLengths, Turned}
 use Rattle.late_links.proofs.link_tails.Given as goal
 
 abbrev pub invariant-loop-k : goal.invariant-loop-k
-invariant-loop-k l = let was = tables_of l.hashes l.initial.parents l.sequences l.initial.counts l.flags l.initial.tips l.initial.tails l.initial.missing l.initial.requested l.initial.arrivals l.initial.connected in
-    let t = tables_of l.hashes l.parents l.sequences l.counts l.flags l.tips l.tails l.missing l.requested l.arrivals l.connected in
-    Turned l.k l.m (SameLengths t was) (t ≡ in_order (link_late l.block.0 l.sequence.0 l.hash) l.k was)
-
-abbrev pub decreases-loop-k : goal.decreases-loop-k
-decreases-loop-k l = l.m - l.k
+invariant-loop-k l =
+    tables_of l.hashes l.parents l.sequences l.counts l.flags l.tips l.tails l.missing l.requested l.arrivals l.connected
+    ≡ in_order (link_late l.block.0 l.sequence.0 l.hash) l.k
+    (tables_of l.hashes l.initial.parents l.sequences l.initial.counts l.flags l.initial.tips l.initial.tails l.initial.missing
+    l.initial.requested l.initial.arrivals l.initial.connected)

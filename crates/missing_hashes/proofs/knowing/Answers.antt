@@ -1,9 +1,5 @@
 -- `k` is the next head with this tail, and none before it waits there.
-use native.Mathlib.Omega.{arith}
-use Prim.Native.Nat.{◌+◌}
-use mathlib.Core.Path.{◌≡◌, sym, ◌∙◌}
-use mathlib.Core.Option.{none, some}
-use Rattle.rules.specs.Common.{lowest}
+use Rattle.std.proofs.Common.{arith, ◌+◌}
 use Rattle.rules.specs.Records.{slots_of}
 use Rattle.rules.specs.Caches.{waits_at, knowing}
 use Rattle.rules.proofs.Search.{lowest-next, lowest-fewer, lowest-at}
@@ -12,42 +8,30 @@ use Rattle.missing_hashes.proofs.Waits.{waits-elsewhere, waits-stored}
 use Rattle.missing_hashes.proofs.knowing.Goals as goal
 
 pub loop-k-init : goal.loop-k-init
-loop-k-init c =
-    rw c.next_at-k.ensures (search-first c.args.tails.now c.args.tail.0 _
-    (waits-elsewhere c.args.tips.now c.args.tails.now c.args.connected.now c.args.tail.0))
+loop-k-init c = rw c.next_at-k.ensures (search-first _ _ _ (waits-elsewhere _ _ _ _))
 
 pub returns-then-is_stored : goal.returns-then-is_stored
 unfolding knowing
 returns-then-is_stored c =
-    let k = c.loop-k.k in
-    let waits = waits-stored c.args.tips.now c.args.tails.now c.args.connected.now c.args.tail.0 k
-    (c.loop-k.invariant.1.1 (omega (arith, c.slots-m.ensures, c.slots.ensures))) ∙ sym c.is_stored.ensures ∙ c.if-is_stored.true in
-    let e : lowest (waits_at c.args.tips.now c.args.tails.now c.args.connected.now c.args.tail.0) (slots_of c.args.tips.now) ≡ some k =
-    lowest-at _ k _ c.loop-k.invariant.1.0 waits (omega (arith, c.slots-m.ensures)) in
+    let a = c.args in
+    let waits = waits-stored a.tips.now a.tails.now a.connected.now a.tail.0 c.loop-k.k in
+    let e = lowest-at (waits_at a.tips.now a.tails.now a.connected.now a.tail.0) _ (slots_of a.tips.now) c.loop-k.invariant.1.0
+    (grind arith) (omega arith) in
     rw (e, knowing)
 
 pub loop-k-smaller : goal.loop-k-smaller
-loop-k-smaller c =
-    omega (
-      arith,
-      c.slots-m.ensures,
-      c.slots.ensures,
-      c.next_at-k-in-loop-k.ensures,
-      next-after c.args.tails.now (c.loop-k.k + 1) c.args.tail.0 (omega (arith, c.slots-m.ensures, c.slots.ensures)),
-    )
+loop-k-smaller c = omega (arith, next-after c.args.tails.now (c.loop-k.k + 1) c.args.tail.0 (omega arith))
 
 pub loop-k-preserved : goal.loop-k-preserved
 loop-k-preserved c =
-    let k = c.loop-k.k in
-    let waits = waits-stored c.args.tips.now c.args.tails.now c.args.connected.now c.args.tail.0 k
-    (c.loop-k.invariant.1.1 (omega (arith, c.slots-m.ensures, c.slots.ensures))) ∙ sym c.is_stored.ensures ∙ c.if-is_stored.false in
-    rw c.next_at-k-in-loop-k.ensures (search-from c.args.tails.now c.args.tail.0 _
-    (waits-elsewhere c.args.tips.now c.args.tails.now c.args.connected.now c.args.tail.0) (k + 1)
-    (omega (arith, c.slots-m.ensures, c.slots.ensures)) (lowest-next _ k c.loop-k.invariant.1.0 waits))
+    let waits = waits-stored c.args.tips.now c.args.tails.now c.args.connected.now c.args.tail.0 c.loop-k.k in
+    rw c.next_at-k-in-loop-k.ensures (search-from _ _ _ (waits-elsewhere _ _ _ _) (c.loop-k.k + 1)
+    (omega arith) (lowest-next _ _ c.loop-k.invariant.1.0 (grind arith)))
 
 pub returns : goal.returns
 unfolding knowing
 returns c =
-    let e : lowest (waits_at c.args.tips.now c.args.tails.now c.args.connected.now c.args.tail.0) (slots_of c.args.tips.now) ≡ none =
-    lowest-fewer _ _ c.loop-k.k (omega (arith, c.slots-m.ensures)) c.loop-k.invariant.1.0 in
+    let a = c.args in
+    let e = lowest-fewer (waits_at a.tips.now a.tails.now a.connected.now a.tail.0) (slots_of a.tips.now) _ (omega arith)
+    c.loop-k.invariant.1.0 in
     rw (e, knowing)

@@ -1,13 +1,13 @@
 -- By the tail.
-use mathlib.Core.Path.{◌∙◌}
-use borrow.Author.Tests.{eq-eqb, ne_eqb}
+use Rattle.std.proofs.Common.{rules}
+use borrow.Author.Tests.{tests}
 use Rattle.rules.specs.Caches.{missing_part}
 use Rattle.missing_hashes.proofs.missing_part.Goals as goal
 
-pub returns-then-tail-arriving : goal.returns-then-tail-arriving
+pub returns-then-eq : goal.returns-then-eq
 unfolding missing_part
-returns-then-tail-arriving c = c.hash_part.ensures ∙ rw (eq-eqb _ _ c.if-tail-arriving.true)
+returns-then-eq c = search (rules, tests)
 
 pub returns : goal.returns
 unfolding missing_part
-returns c = c.hash_part-2.ensures ∙ rw (ne_eqb _ _ c.if-tail-arriving.false)
+returns c = search (rules, tests)

@@ -1,10 +1,13 @@
--- By the tail.
-use mathlib.Core.Path.{sym, ◌∙◌}
-use Rattle.missing_hashes.proofs.Waits.{waits-elsewhere, waits-stored}
+-- A stored head, with this tail.
+use Rattle.std.proofs.Common.{rules}
+use borrow.Author.Tests.{tests}
+use Rattle.rules.specs.Caches.{waits_at}
 use Rattle.missing_hashes.proofs.waits_at.Goals as goal
 
-pub returns-then-word_at-tail : goal.returns-then-word_at-tail
-returns-then-word_at-tail c = sym (waits-elsewhere _ _ _ _ _ (λ q. c.if-word_at-tail.true (c.word_at.ensures ∙ q)))
+pub returns-then-cell_at-tail : goal.returns-then-cell_at-tail
+unfolding waits_at
+returns-then-cell_at-tail c = search (rules, tests)
 
-pub returns : goal.returns
-returns c = c.is_stored.ensures ∙ sym (waits-stored _ _ _ _ _ (sym c.word_at.ensures ∙ c.if-word_at-tail.false))
+pub returns-else-cell_at-tail : goal.returns-else-cell_at-tail
+unfolding waits_at
+returns-else-cell_at-tail c = search (rules, tests)

@@ -1,25 +1,15 @@
 -- The heads before `k` are done.
-use native.Mathlib.Omega.{arith}
-use mathlib.Core.Path.{◌≡◌, sym}
+use Rattle.std.proofs.Common.{rules}
 use Rattle.rules.specs.Admission.{recompute_missing}
-use Rattle.rules.proofs.Search.{in-order-none}
-use borrow.Author.Rules.{rules}
-use Rattle.rules.proofs.Loops.{on-heads, heads-then}
+use Rattle.rules.proofs.Search.{in-order-none, in-order-then}
 use Rattle.pending_tails.proofs.recompute_missing.Goals as goal
 
 pub loop-k-init : goal.loop-k-init
-loop-k-init c = record { within = omega arith; lengths = omega arith; done = on-heads (sym (in-order-none _ _)) }
+loop-k-init c = search (rules, in-order-none)
 
 pub loop-k-preserved : goal.loop-k-preserved
-loop-k-preserved c =
-    record {
-      within = omega arith;
-      lengths = search rules;
-      done = heads-then _ _ _ _ _ _ c.recompute_missed.ensures c.loop-k.invariant.done;
-    }
+loop-k-preserved c = in-order-then _ _ _ _ _ c.recompute_missed.ensures c.loop-k.invariant
 
 pub returns : goal.returns
 unfolding recompute_missing
-returns c =
-    let e : c.loop-k.k ≡ c.slots-m.result = omega arith in
-    rw (← c.hash_at-hash.ensures, ← c.slots-m.ensures, ← e) c.loop-k.invariant.done
+returns c = search rules

@@ -1,12 +1,12 @@
 -- None held, or its parent held.
-use borrow.Author.Tests.{eq-eqb, ne_eqb}
+use mathlib.Core.Path.{sym}
 use Rattle.rules.specs.Calls.{is_next}
 use Rattle.promote_call.proofs.is_next.Goals as goal
 
-pub returns-then-active : goal.returns-then-active
+pub returns-then-eq : goal.returns-then-eq
 unfolding is_next
-returns-then-active c = rw (eq-eqb _ _ c.if-active.true)
+returns-then-eq c = rw (← c.eq.ensures, c.if-eq.true)
 
-pub returns : goal.returns
+pub returns-else-eq : goal.returns-else-eq
 unfolding is_next
-returns c = rw (ne_eqb _ _ c.if-active.false, c.word_at.ensures)
+returns-else-eq c = rw (sym c.if-eq.ensures, ← c.cell_at.ensures, ← c.eq-else-eq.ensures)

@@ -3,7 +3,7 @@ use mathlib.Core.Path.{◌≡◌, refl, ◌∙◌}
 use mathlib.Core.Logic.{◌≢◌, inl}
 use mathlib.Core.Bool.{true, false}
 use mathlib.Core.List.{List}
-use mathlib.Core.Option.{Option, none, some}
+use Rattle.std.specs.Prelude.{Option, None, Some}
 use Prim.Native.Nat.{ℕ, ◌<◌}
 use native.Mathlib.Omega.{arith}
 use lib.ListN.{set}
@@ -86,13 +86,13 @@ module _ (t : Blocks) (h : Heads) (active_head x q : ℕ) (hash : List ℕ) (par
       abbrev v : Blocks
       v = (one_more (record { blocks = u; heads = h }) p).blocks
 
-      pub risen : slot_of_head h.tips p ≡ none → Good v h active_head (λ i. i ≢ x)
+      pub risen : slot_of_head h.tips p ≡ None → Good v h active_head (λ i. i ≢ x)
       risen n = rw (raised u p ou) (fork-good t h active_head x q hash p g f op n low)
 
       risen-steady : Steady NONE u v
       risen-steady = rw (raised u p ou) (but-steady NONE u (set_count u p (raise (count_of u p))) p (count-but u p (raise (count_of u p))) refl refl refl refl (λ _. refl))
 
-      place-fork : slot_of_head h.tips p ≡ none → Placed u active_head x (fork (record { blocks = u; heads = h }) x p previous arrival active_head)
+      place-fork : slot_of_head h.tips p ≡ None → Placed u active_head x (fork (record { blocks = u; heads = h }) x p previous arrival active_head)
       unfolding fork adjust children_of
       place-fork n = seated _ (record {
         good = risen n;
@@ -102,7 +102,7 @@ module _ (t : Blocks) (h : Heads) (active_head x q : ℕ) (hash : List ℕ) (par
         bare = bare;
       }) risen-steady
 
-      place_up : (s : ℕ) → slot_of_head h.tips p ≡ some s → Placed u active_head x (move_up (record { blocks = u; heads = h }) s x previous arrival)
+      place_up : (s : ℕ) → slot_of_head h.tips p ≡ Some s → Placed u active_head x (move_up (record { blocks = u; heads = h }) s x previous arrival)
       unfolding move_up
       place_up s e =
           let w = head-some h p s e in
@@ -117,13 +117,13 @@ module _ (t : Blocks) (h : Heads) (active_head x q : ℕ) (hash : List ℕ) (par
           }
 
 place-done : (t : Blocks) (h : Heads) (active_head x q : ℕ) (hash : List ℕ) (parent : Option ℕ) (previous : List ℕ) (arrival : ℕ) → Good t h active_head All → Fits t x q hash (slot_or_none parent)
-    → ((i : ℕ) → parent ≡ some i → is_occupied t i ≡ true)
+    → ((i : ℕ) → parent ≡ Some i → is_occupied t i ≡ true)
     → Placed (insert t x q hash (slot_or_none parent)) active_head x (place_head (record { blocks = insert t x q hash (slot_or_none parent); heads = h }) x parent previous arrival active_head)
 unfolding place_head
-place-done t h active_head x q hash none previous arrival g f there = place-root t h active_head x q hash none previous arrival g f refl
-place-done t h active_head x q hash (some i) previous arrival g f there = option? (slot_of_head h.tips i)
-    (λ n. rw (n, place_head) (place-fork t h active_head x q hash (some i) previous arrival g f (there i refl) n))
-    (λ s e. rw (e, place_head) (place_up t h active_head x q hash (some i) previous arrival g f (there i refl) s e))
+place-done t h active_head x q hash None previous arrival g f there = place-root t h active_head x q hash None previous arrival g f refl
+place-done t h active_head x q hash (Some i) previous arrival g f there = option? (slot_of_head h.tips i)
+    (λ n. rw (n, place_head) (place-fork t h active_head x q hash (Some i) previous arrival g f (there i refl) n))
+    (λ s e. rw (e, place_head) (place_up t h active_head x q hash (Some i) previous arrival g f (there i refl) s e))
 
 -- ---- the late tails and the refresh
 
@@ -160,7 +160,7 @@ resolve-good u active_head x w previous d =
     rw (resolve-is w x previous d.home) (refreshed v active_head x All hash previous j.frame j.loose, j.steady, j.home)
 
 pub admit-done : (t : Blocks) (h : Heads) (active_head x q : ℕ) (hash : List ℕ) (parent : Option ℕ) (previous : List ℕ) (arrival : ℕ) → Good t h active_head All → Fits t x q hash (slot_or_none parent)
-    → ((i : ℕ) → parent ≡ some i → is_occupied t i ≡ true)
+    → ((i : ℕ) → parent ≡ Some i → is_occupied t i ≡ true)
     → Admitted t active_head x q hash (refresh_tails (admitted (record { blocks = insert_at t x (new_block q hash (slot_or_none parent)); heads = h }) x parent previous arrival active_head))
 unfolding admitted
 admit-done t h active_head x q hash parent previous arrival g f there =

@@ -3,7 +3,7 @@ use mathlib.Core.Path.{◌≡◌, refl, sym, ap, ◌∙◌}
 use mathlib.Core.Logic.{◌≢◌, ◌⊎◌, inl, inr}
 use mathlib.Core.Bool.{true, not, ◌&&◌}
 use mathlib.Core.List.{List}
-use mathlib.Core.Option.{none, some}
+use Rattle.std.specs.Prelude.{None, Some}
 use Prim.Native.Nat.{ℕ, suc}
 use native.Mathlib.Omega.{arith}
 use lib.Dec.{eqb}
@@ -42,10 +42,10 @@ module _ (t : Blocks) (q : ℕ) (hash : List ℕ) (i : ℕ) where
   is_block_lem o e h = rw (o, eq-eqb (seq_of t i) q e, h, same_refl hash) refl
 
 -- a parent stands one lower
-pub parent_is : (t : Blocks) (q : ℕ) (previous : List ℕ) (i : ℕ) → find_parent t.hashes t.sequences q previous ≡ some i → (is_occupied t i ≡ true) × (suc (seq_of t i) ≡ q)
+pub parent_is : (t : Blocks) (q : ℕ) (previous : List ℕ) (i : ℕ) → find_parent t.hashes t.sequences q previous ≡ Some i → (is_occupied t i ≡ true) × (suc (seq_of t i) ≡ q)
 unfolding find_parent find
 parent_is t q previous i e = same? q 0
-    (λ z. some-not-none {o = none} {i = i} (rw (eq-eqb q 0 z) at e) refl)
+    (λ z. some-not-none {o = None} {i = i} (rw (eq-eqb q 0 z) at e) refl)
     (λ nz.
     let b = lowest-holds _ _ i (rw (ne_eqb q 0 nz) at e) in
     let c = block-is t _ previous i b.1 in
@@ -137,8 +137,8 @@ module _ (s : State) (q : ℕ) (hash previous : List ℕ) (arrival x : ℕ) (z :
         new = λ i e _. let c : ◌≡◌ {A = ℕ} 0 1 = cc in absurd (omega arith);
         only = λ i a. inl (active-was s z.tree.line sh w x free y v i a);
         given = λ i was o h. split (is_at (slot_returned (takes_slot s x q hash previous arrival).answer) i)
-            (λ e. rw e (ap some (sym own ∙ ap (name u) (eqb-true x i e))))
-            (λ e. let p = other i (λ c. eqb-false x i e (sym c)) o in rw e (h p.0 ∙ ap some (sym p.1)));
+            (λ e. rw e (ap Some (sym own ∙ ap (name u) (eqb-true x i e))))
+            (λ e. let p = other i (λ c. eqb-false x i e (sym c)) o in rw e (h p.0 ∙ ap Some (sym p.1)));
       }
 
 module _ (s : State) (q : ℕ) (hash previous : List ℕ) (arrival : ℕ) where

@@ -3,7 +3,7 @@ use mathlib.Core.Path.{◌≡◌, refl, sym, ap, ◌∙◌}
 use mathlib.Core.Logic.{◌≢◌}
 use mathlib.Core.Bool.{true, false}
 use mathlib.Core.List.{List}
-use mathlib.Core.Option.{none}
+use Rattle.std.specs.Prelude.{None}
 use Prim.Native.Nat.{ℕ, suc, ◌+◌, ◌<◌, max, min}
 use native.Mathlib.Omega.{arith}
 use lib.IntN.{pos}
@@ -155,7 +155,7 @@ module _ (t : Blocks) (h : Heads) (active_head x q : ℕ) (hash : List ℕ) (p :
         }
 
   -- the parent is no head: it counts one more
-  pub fork-good : is_occupied t p ≡ true → slot_of_head h.tips p ≡ none → (is_active t p ≡ false → count_of t p < max_count)
+  pub fork-good : is_occupied t p ≡ true → slot_of_head h.tips p ≡ None → (is_active t p ≡ false → count_of t p < max_count)
       → Good (set_count u p (raise (count_of u p))) h active_head (λ i. i ≢ x)
   fork-good op n low =
       let c : ℕ = raise (count_of u p) in

@@ -3,7 +3,7 @@ use mathlib.Core.Path.{◌≡◌, sym, ap, ◌∙◌}
 use mathlib.Core.Logic.{◌≢◌}
 use mathlib.Core.Bool.{true, not, ◌&&◌}
 use mathlib.Core.List.{List}
-use mathlib.Core.Option.{none, some}
+use Rattle.std.specs.Prelude.{None, Some}
 use Prim.Native.Nat.{ℕ, ◌<◌}
 use native.Mathlib.Omega.{arith}
 use lib.Dec.{eqb}
@@ -77,7 +77,7 @@ module _ (t : Blocks) (h : Heads) (active_head : ℕ) (C : ℕ → Type 0) (g : 
 -- ---- the victim
 
 module _ (hashes sequences tips : List ℕ) (active_head : ℕ) where
-  pub victim-some : (v : ℕ) → victim hashes sequences tips active_head ≡ some v → (used tips v ≡ true) × (tip_at tips v ≢ active_head)
+  pub victim-some : (v : ℕ) → victim hashes sequences tips active_head ≡ Some v → (used tips v ≡ true) × (tip_at tips v ≢ active_head)
   unfolding victim may_go
   victim-some v e =
       let b = best-holds (may_go sequences tips active_head) (λ j k. block_before hashes sequences (tip_at tips j) (tip_at tips k)) _ v e in
@@ -85,7 +85,7 @@ module _ (hashes sequences tips : List ℕ) (active_head : ℕ) where
       let d = and-true (used tips v) (not (eqb (tip_at tips v) active_head)) c.0 in
       (d.0, eqb-false (tip_at tips v) active_head (not-true (eqb (tip_at tips v) active_head) d.1))
 
-  pub victim-none : victim hashes sequences tips active_head ≡ none → (s : ℕ) → s < slots_of tips → used tips s ≡ true → occupied sequences (tip_at tips s) ≡ true → tip_at tips s ≡ active_head
+  pub victim-none : victim hashes sequences tips active_head ≡ None → (s : ℕ) → s < slots_of tips → used tips s ≡ true → occupied sequences (tip_at tips s) ≡ true → tip_at tips s ≡ active_head
   unfolding victim may_go
   victim-none e s l u o = same? (tip_at tips s) active_head (λ q. q) (λ ne.
       true-not-false {b = may_go sequences tips active_head s}
@@ -94,7 +94,7 @@ module _ (hashes sequences tips : List ℕ) (active_head : ℕ) where
 
 -- of two heads one is not the active one
 pub victim-there : (t : Blocks) (h : Heads) (active_head : ℕ) → Room h → Apart h → ((s : ℕ) → in_use h s ≡ true → is_occupied t (tip_of h s) ≡ true)
-    → ((s : ℕ) → s < room h → in_use h s ≡ true) → victim t.hashes t.sequences h.tips active_head ≢ none
+    → ((s : ℕ) → s < room h → in_use h s ≡ true) → victim t.hashes t.sequences h.tips active_head ≢ None
 victim-there t h active_head r apart there full e =
     let n = head-slots h r in
     let m = r.two in
@@ -107,7 +107,7 @@ victim-there t h active_head r apart there full e =
 
 -- ---- the rule
 
-pub evict-one : (t : Blocks) (h : Heads) (active_head v : ℕ) → Shape t → victim t.hashes t.sequences h.tips active_head ≡ some v
+pub evict-one : (t : Blocks) (h : Heads) (active_head v : ℕ) → Shape t → victim t.hashes t.sequences h.tips active_head ≡ Some v
     → evict_one (record { blocks = t; heads = h }) active_head ≡ record { blocks = evict_from (size t) t (tip_of h v); heads = clear h v }
 unfolding evict_one evict
 evict-one t h active_head v s e = rw (e, evict_one) (rw (kids-slots t s))

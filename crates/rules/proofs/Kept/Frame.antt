@@ -2,7 +2,7 @@
 use mathlib.Core.Path.{◌≡◌, refl, sym, ◌∙◌}
 use mathlib.Core.Logic.{◌≢◌, ◌⊎◌}
 use mathlib.Core.Bool.{true, false, ◌&&◌}
-use mathlib.Core.Option.{none, some}
+use Rattle.std.specs.Prelude.{None, Some}
 use Prim.Native.Nat.{ℕ, ◌<◌}
 use lib.Dec.{eqb}
 use borrow.Author.Tests.{eqb-true, eq-eqb}
@@ -59,14 +59,14 @@ anchor? (tail i) f g = g i refl
 -- ---- the lowest head of a block
 
 module _ (h : Heads) (x s : ℕ) where
-  pub head-some : slot_of_head h.tips x ≡ some s → (in_use h s ≡ true) × (tip_of h s ≡ x)
+  pub head-some : slot_of_head h.tips x ≡ Some s → (in_use h s ≡ true) × (tip_of h s ≡ x)
   unfolding slot_of_head
   head-some e =
       let b = lowest-holds (λ k. in_use h k && eqb (tip_of h k) x) (slots_of h.tips) s e in
       let c = and-true (in_use h s) (eqb (tip_of h s) x) b.1 in
       (c.0, eqb-true (tip_of h s) x c.1)
 
-  pub head-none : Room h → slot_of_head h.tips x ≡ none → in_use h s ≡ true → tip_of h s ≢ x
+  pub head-none : Room h → slot_of_head h.tips x ≡ None → in_use h s ≡ true → tip_of h s ≢ x
   unfolding slot_of_head
   head-none r e u q = true-not-false {b = in_use h s && eqb (tip_of h s) x}
       (and_both (in_use h s) (eqb (tip_of h s) x) u (eq-eqb (tip_of h s) x q))

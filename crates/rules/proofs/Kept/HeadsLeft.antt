@@ -3,12 +3,12 @@ use mathlib.Core.Path.{◌≡◌, refl, sym, ap, ◌∙◌}
 use mathlib.Core.Logic.{◌≢◌, ◌⊎◌, inl, inr}
 use mathlib.Core.Bool.{Bool, true, false, not, ◌&&◌}
 use mathlib.Core.List.{List}
-use mathlib.Core.Option.{Option, none}
+use Rattle.std.specs.Prelude.{Option, None, is_some}
 use Prim.Native.Nat.{ℕ, ◌<◌}
 use native.Mathlib.Omega.{arith}
 use lib.Dec.{eqb}
 use borrow.Author.Tests.{eqb-true, eq-eqb, not-true}
-use Rattle.rules.specs.Common.{is_some, is_at, lowest}
+use Rattle.rules.specs.Common.{is_at, lowest}
 use Rattle.rules.specs.Records.{NONE, Blocks, Heads, slots_of, used, empty_head, head_at}
 use Rattle.rules.specs.BlockTable.{childless, children}
 use Rattle.rules.specs.Caches.{slot_of_head}
@@ -46,7 +46,7 @@ module _ (t u : Blocks) (h : Heads) (active_head r : ℕ) (deleted : List ℕ) (
   abbrev pub h2 : Heads
   h2 = drop_heads deleted moving p h
 
-  over : takes-over ≡ true → (is_occupied u p ≡ true) × (slot_of_head h.tips p ≡ none) × (children_of u p ≡ 0)
+  over : takes-over ≡ true → (is_occupied u p ≡ true) × (slot_of_head h.tips p ≡ None) × (children_of u p ≡ 0)
   unfolding takes_over childless
   over e =
       let c = and-true (is_occupied u p && not (is_some (slot_of_head h.tips p))) (eqb (children u.parents u.sequences p) 0) e in
@@ -56,7 +56,7 @@ module _ (t u : Blocks) (h : Heads) (active_head r : ℕ) (deleted : List ℕ) (
         sym (kids-are u lf.shape p) ∙ eqb-true (children u.parents u.sequences p) 0 c.1,
       )
 
-  takes : is_occupied u p ≡ true → slot_of_head h.tips p ≡ none → children_of u p ≡ 0 → takes-over ≡ true
+  takes : is_occupied u p ≡ true → slot_of_head h.tips p ≡ None → children_of u p ≡ 0 → takes-over ≡ true
   unfolding takes_over childless
   takes o n z = rw (o, n, kids-are u lf.shape p, z) refl
 
@@ -64,7 +64,7 @@ module _ (t u : Blocks) (h : Heads) (active_head r : ℕ) (deleted : List ℕ) (
   unfolding heir
   heir-yes e = rw e
 
-  heir-no : takes-over ≡ false → moving ≡ none
+  heir-no : takes-over ≡ false → moving ≡ None
   unfolding heir
   heir-no e = rw e
 
@@ -165,7 +165,7 @@ module _ (t u : Blocks) (h : Heads) (active_head r : ℕ) (deleted : List ℕ) (
       (k, q.0, q.1 ∙ e))
       (λ n c.
       let e : parent_of t r ≡ i = lf.lost_last i o z (omega arith) in
-      let none-there : slot_of_head h.tips p ≡ none = option? (slot_of_head h.tips p)
+      let none-there : slot_of_head h.tips p ≡ None = option? (slot_of_head h.tips p)
       (λ n. n)
       (λ k q. let b = head-some h p k q in let y = rw (b.1, e) at (f.tips k b.0).1 in absurd (omega arith)) in
       let (k, uk, q) = heir-there (takes (rw e o) none-there (rw e z)) in

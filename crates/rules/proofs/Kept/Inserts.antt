@@ -2,7 +2,7 @@
 use mathlib.Core.Path.{◌≡◌, refl, ap, ◌∙◌}
 use mathlib.Core.Logic.{◌⊎◌, inl, inr}
 use mathlib.Core.List.{List}
-use mathlib.Core.Option.{Option, some}
+use Rattle.std.specs.Prelude.{Option, Some}
 use Prim.Native.Nat.{ℕ, suc}
 use native.Mathlib.Omega.{arith}
 use Rattle.rules.specs.Common.{in_order}
@@ -36,8 +36,8 @@ module _ (s : State) (q : ℕ) (hash previous : List ℕ) (arrival i : ℕ) wher
   unfolding step
   at_slot e = rw (admit-slot s q hash previous arrival i e).1 refl
 
-  from_parent : (p : ℕ) → parent_found s q previous ≡ some p
-      → admit_at s i q hash previous arrival ≡ refresh_tails (admitted (inserted s i q hash previous) i (some p) previous arrival s.active_head)
+  from_parent : (p : ℕ) → parent_found s q previous ≡ Some p
+      → admit_at s i q hash previous arrival ≡ refresh_tails (admitted (inserted s i q hash previous) i (Some p) previous arrival s.active_head)
   unfolding admit_at
   from_parent p m = ap (λ (o : Option ℕ). refresh_tails (admitted (inserted s i q hash previous) i o previous arrival s.active_head)) m
 

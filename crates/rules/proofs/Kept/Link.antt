@@ -2,7 +2,7 @@
 use mathlib.Core.Path.{◌≡◌, refl, sym, ap, ◌∙◌}
 use mathlib.Core.Logic.{◌≢◌, inl, inr}
 use mathlib.Core.Bool.{true, false, not}
-use mathlib.Core.Option.{none}
+use Rattle.std.specs.Prelude.{None}
 use Prim.Native.Nat.{ℕ, suc}
 use native.Mathlib.Omega.{arith}
 use lib.Dec.{eqb}
@@ -108,7 +108,7 @@ module _ (t : Blocks) (h : Heads) (active_head x T : ℕ) (g : Frame t h active_
       }
 
   -- a further one: the count rises by one
-  pub fork : slot_of_head h.tips x ≡ none → Frame (set_count u x (suc (count_of t x))) h active_head All
+  pub fork : slot_of_head h.tips x ≡ None → Frame (set_count u x (suc (count_of t x))) h active_head All
   fork n =
       let c : ℕ = suc (count_of t x) in
       let cx = g.counts.counted x w.home w.fresh in

@@ -3,7 +3,7 @@ use mathlib.Core.Path.{◌≡◌, refl, sym, ap, ◌∙◌}
 use mathlib.Core.Logic.{inl, inr}
 use mathlib.Core.Bool.{true, false, not, ◌&&◌}
 use mathlib.Core.List.{List}
-use mathlib.Core.Option.{none, some}
+use Rattle.std.specs.Prelude.{None, Some}
 use Prim.Native.Nat.{ℕ, zero, suc, ◌<◌}
 use native.Mathlib.Omega.{arith}
 use lib.Dec.{eqb}
@@ -48,12 +48,12 @@ module _ (t : Blocks) (h : Heads) (x k : ℕ) where
   abbrev T : ℕ
   T = tail_at h.tails k
 
-  link-none : slot_of_head h.tips x ≡ none → is_occupied t x ≡ true
+  link-none : slot_of_head h.tips x ≡ None → is_occupied t x ≡ true
       → link (record { blocks = t; heads = h }) x k ≡ record { blocks = set_count (set_parent t T x) x (raise (count_of t x)); heads = h }
   unfolding link joined resolve_parent
   link-none n o = rw (n, joined) (rw (raised (set_parent t T x) x o))
 
-  link-some : (r : ℕ) → slot_of_head h.tips x ≡ some r → link (record { blocks = t; heads = h }) x k ≡ record { blocks = set_parent t T x; heads = clear h r }
+  link-some : (r : ℕ) → slot_of_head h.tips x ≡ Some r → link (record { blocks = t; heads = h }) x k ≡ record { blocks = set_parent t T x; heads = clear h r }
   unfolding link joined resolve_parent
   link-some r e = rw (e, joined)
 
@@ -61,7 +61,7 @@ module _ (t : Blocks) (h : Heads) (x k : ℕ) where
   link-steady v = but-steady NONE t (set_parent t T x) T (parent-but t T x) refl refl refl refl (λ n. absurd (n v.orphan))
 
   module _ (s : Blocks) (active_head q : ℕ) (j : Joining s active_head x q (record { blocks = t; heads = h })) (v : Waits t x T) where
-    by-fork : slot_of_head h.tips x ≡ none → Joining s active_head x q (link (record { blocks = t; heads = h }) x k)
+    by-fork : slot_of_head h.tips x ≡ None → Joining s active_head x q (link (record { blocks = t; heads = h }) x k)
     by-fork n =
         let f = j.frame in
         let low : count_of t x < max_count = omega (
@@ -82,7 +82,7 @@ module _ (t : Blocks) (h : Heads) (x k : ℕ) where
               (but-steady NONE u (set_count u x c) x (count-but u x c) refl refl refl refl (λ _. refl));
         })
 
-    by-merge : (r : ℕ) → slot_of_head h.tips x ≡ some r → Joining s active_head x q (link (record { blocks = t; heads = h }) x k)
+    by-merge : (r : ℕ) → slot_of_head h.tips x ≡ Some r → Joining s active_head x q (link (record { blocks = t; heads = h }) x k)
     by-merge r e =
         let f = j.frame in
         let w = head-some h x r e in

@@ -1,9 +1,8 @@
 -- Lists of calls: the promises go from call to call, and the log grows by each.
-use Rattle.std.specs.Prelude.{if◌then◌else◌}
+use Rattle.std.specs.Prelude.{if◌then◌else◌, Option, None}
 use mathlib.Core.Path.{◌≡◌, refl, sym, ap, ◌∙◌}
 use mathlib.Core.Logic.{◌⊎◌, inl, inr}
 use mathlib.Core.List.{List, [], ◌∷◌, ◌++◌, append-nil, append_assoc}
-use mathlib.Core.Option.{Option, none}
 use Prim.Native.Nat.{ℕ}
 use native.Mathlib.Omega.{arith}
 use lib.ListN.{length}
@@ -84,7 +83,7 @@ recorded-step log s call r w = record {
       ]
     ],
   );
-  admitted = λ i o. last-append i none log (entry s call ∷ []) ∙ w.given i (last_admitted i none log) o (λ b. r.admitted i b);
+  admitted = λ i o. last-append i None log (entry s call ∷ []) ∙ w.given i (last_admitted i None log) o (λ b. r.admitted i b);
 }
 
 -- ---- the list

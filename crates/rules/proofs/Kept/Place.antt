@@ -3,7 +3,7 @@ use mathlib.Core.Path.{◌≡◌, refl, sym, ap, ◌∙◌}
 use mathlib.Core.Logic.{◌≢◌}
 use mathlib.Core.Bool.{Bool, true, false, not}
 use mathlib.Core.List.{List}
-use mathlib.Core.Option.{none, some}
+use Rattle.std.specs.Prelude.{None, Some}
 use Prim.Native.Nat.{ℕ, ◌<◌}
 use borrow.Author.Tests.{not-true, not-false}
 use Rattle.rules.specs.Records.{NONE, Blocks, Heads, Tables, slots_of, put_head, clear}
@@ -41,13 +41,13 @@ module _ (t : Blocks) (h u : Heads) (k x arriving : ℕ) (previous : List ℕ) (
 -- ---- the lowest empty head
 
 module _ (h : Heads) (k : ℕ) (r : Room h) where
-  pub empty-some : first_empty h.tips ≡ some k → (k < room h) × (in_use h k ≡ false)
+  pub empty-some : first_empty h.tips ≡ Some k → (k < room h) × (in_use h k ≡ false)
   unfolding first_empty
   empty-some e =
       let b = lowest-holds (λ s. not (in_use h s)) (slots_of h.tips) k e in
       (rw (head-slots h r) at b.0, not-true (in_use h k) b.1)
 
-  pub empty-none : first_empty h.tips ≡ none → k < room h → in_use h k ≡ true
+  pub empty-none : first_empty h.tips ≡ None → k < room h → in_use h k ≡ true
   unfolding first_empty
   empty-none e l = not-false (in_use h k) (lowest-misses (λ s. not (in_use h s)) (slots_of h.tips) k e (rw (head-slots h r) l))
 
@@ -96,7 +96,7 @@ module _ (t : Blocks) (h : Heads) (active_head x arriving : ℕ) (previous : Lis
             (λ ne. rw (seat-tip h (seated k) k x s v ne) (old v (sym (seat-use h (seated k) k x s v ne) ∙ uv)));
       }
 
-  seat-some : (k : ℕ) → first_empty h.tips ≡ some k → seat_head (record { blocks = t; heads = h }) x arriving previous arrival ≡ record { blocks = t; heads = seated k }
+  seat-some : (k : ℕ) → first_empty h.tips ≡ Some k → seat_head (record { blocks = t; heads = h }) x arriving previous arrival ≡ record { blocks = t; heads = seated k }
   unfolding seat_head
   seat-some k e = rw (e, seat_head)
 
@@ -133,11 +133,11 @@ done-after t u h w active_head x v b D tr d = record {
 
 -- ---- the rule
 
-room-there : (t : Blocks) (h : Heads) (active_head k : ℕ) → first_empty h.tips ≡ some k → make_room (record { blocks = t; heads = h }) active_head ≡ record { blocks = t; heads = h }
+room-there : (t : Blocks) (h : Heads) (active_head k : ℕ) → first_empty h.tips ≡ Some k → make_room (record { blocks = t; heads = h }) active_head ≡ record { blocks = t; heads = h }
 unfolding make_room
 room-there t h active_head k e = rw (e, make_room)
 
-room-made : (t : Blocks) (h : Heads) (active_head v : ℕ) → Shape t → first_empty h.tips ≡ none → victim t.hashes t.sequences h.tips active_head ≡ some v
+room-made : (t : Blocks) (h : Heads) (active_head v : ℕ) → Shape t → first_empty h.tips ≡ None → victim t.hashes t.sequences h.tips active_head ≡ Some v
     → make_room (record { blocks = t; heads = h }) active_head ≡ record { blocks = evict_from (size t) t (tip_of h v); heads = clear h v }
 unfolding make_room
 room-made t h active_head v s e f = rw (e, make_room) (evict-one t h active_head v s f)

@@ -2,7 +2,7 @@
 use mathlib.Core.Path.{◌≡◌, refl}
 use mathlib.Core.Logic.{◌≢◌}
 use mathlib.Core.Bool.{true, false, ◌&&◌}
-use mathlib.Core.Option.{Option, none, some}
+use Rattle.std.specs.Prelude.{Option, None, Some}
 use Prim.Native.Nat.{ℕ}
 use native.Mathlib.Omega.{arith}
 use lib.Dec.{leb}
@@ -101,34 +101,34 @@ module _ (s : State) (now : ℕ) (span : Option ℕ) (z : Sound s) where
   timer-not : (i : ℕ) → timer_call now span ≡ promote_call i → ⊥
   timer-not i e = let q : ◌≡◌ {A = ℕ} 0 1 = cc in omega arith
 
-  picked-use : (k : ℕ) → pick ≡ some k → in_use h k ≡ true
+  picked-use : (k : ℕ) → pick ≡ Some k → in_use h k ≡ true
   unfolding chosen may_ask
   picked-use k e =
       let c = best-holds (may_ask b.sequences h.tips h.requested h.connected now (span_or span)) (asks_before b.hashes b.sequences h.tips h.requested) (slots_of h.tips) k e in
       let d = and-true (stored h.tips h.connected k && leb (due (requested_at h.requested k) (span_or span)) now) (occupied b.sequences (tip_at h.tips k)) c.1 in
       stored-use h k (and-true (stored h.tips h.connected k) (leb (due (requested_at h.requested k) (span_or span)) now) d.0).0
 
-  found_none : pick ≡ none → found ≡ none
+  found_none : pick ≡ None → found ≡ None
   unfolding recovery
   found_none e = rw (e, recovery)
 
-  found_some : (k : ℕ) → pick ≡ some k → found ≡ ask_at b.sequences h.tails k
+  found_some : (k : ℕ) → pick ≡ Some k → found ≡ ask_at b.sequences h.tails k
   unfolding recovery
   found_some k e = rw (e, recovery)
 
-  ask-yes : (k : ℕ) → occupied b.sequences (tail_at h.tails k) ≡ true → ask_at b.sequences h.tails k ≡ some (record { head = k; claims = claimed (sequence_at b.sequences (tail_at h.tails k)) })
+  ask-yes : (k : ℕ) → occupied b.sequences (tail_at h.tails k) ≡ true → ask_at b.sequences h.tails k ≡ Some (record { head = k; claims = claimed (sequence_at b.sequences (tail_at h.tails k)) })
   unfolding ask_at
   ask-yes k o = rw o
 
-  ask-no : (k : ℕ) → occupied b.sequences (tail_at h.tails k) ≡ false → ask_at b.sequences h.tails k ≡ none
+  ask-no : (k : ℕ) → occupied b.sequences (tail_at h.tails k) ≡ false → ask_at b.sequences h.tails k ≡ None
   unfolding ask_at
   ask-no k o = rw o
 
-  silent : Went (timer_call now span) s (asked s now none)
+  silent : Went (timer_call now span) s (asked s now None)
   unfolding asked
   silent = quiet (timer_call now span) s s.tables none_due z (sound-good s z) (steady-refl NONE b) (λ _. refl) (λ i q _. timer-not i q)
 
-  asking : (k claims : ℕ) → in_use h k ≡ true → Went (timer_call now span) s (asked s now (some (record { head = k; claims = claims })))
+  asking : (k claims : ℕ) → in_use h k ≡ true → Went (timer_call now span) s (asked s now (Some (record { head = k; claims = claims })))
   unfolding asked
   asking k claims u = quiet (timer_call now span) s (with_heads s.tables (with_requested h (mark_requested h.requested k now))) (request k claims (hash_at h.missing k)) z
       (requested-good s k now (sound-good s z) u) (steady-refl NONE b) (λ _. refl) (λ i q _. timer-not i q)

@@ -2,7 +2,7 @@
 use mathlib.Core.Path.{◌≡◌, refl, ap, ◌∙◌}
 use mathlib.Core.Logic.{◌≢◌}
 use mathlib.Core.List.{List}
-use mathlib.Core.Option.{none, some}
+use Rattle.std.specs.Prelude.{None, Some}
 use Prim.Native.Nat.{ℕ, zero, suc, ◌≤◌, ◌<◌}
 use native.Mathlib.Omega.{arith}
 use Rattle.rules.specs.Common.{in_order}
@@ -29,7 +29,7 @@ use Rattle.rules.proofs.Kept.AdmitStep.{fits, parent_is, admit-slot}
 
 -- ---- tables without a victim
 
-module _ (t : Tables) (active_head : ℕ) (full : first_empty t.heads.tips ≡ none) (nobody : victim t.blocks.hashes t.blocks.sequences t.heads.tips active_head ≡ none) where
+module _ (t : Tables) (active_head : ℕ) (full : first_empty t.heads.tips ≡ None) (nobody : victim t.blocks.hashes t.blocks.sequences t.heads.tips active_head ≡ None) where
   no-room-made : make_room t active_head ≡ t
   unfolding make_room evict_one
   no-room-made = rw (full, make_room) (rw (nobody, evict_one))
@@ -48,7 +48,7 @@ module _ (t : Tables) (arrival active_head k : ℕ) where
   w = rebuilt_below k t arrival active_head
 
   -- a rebuild adds no more heads
-  pub no-head-rebuilt : first_empty w.heads.tips ≡ none → victim w.blocks.hashes w.blocks.sequences w.heads.tips active_head ≡ none
+  pub no-head-rebuilt : first_empty w.heads.tips ≡ None → victim w.blocks.hashes w.blocks.sequences w.heads.tips active_head ≡ None
       → (n : ℕ) → k ≤ n → rebuilt_below n t arrival active_head ≡ w
   unfolding in_order
   no-head-rebuilt full nobody zero l = let e : k ≡ 0 = omega arith in rw e refl
@@ -80,17 +80,17 @@ module _ (s : State) (z : Sound s) where
     f : Fits t x q hash (slot_or_none (parent_found s q previous))
     f = fits s q hash previous arrival x z (admit-slot s q hash previous arrival x e).0
 
-    at-root : parent_found s q previous ≡ none → VictimIfFull (one_more (inserted s x q hash previous) x) s.active_head
+    at-root : parent_found s q previous ≡ None → VictimIfFull (one_more (inserted s x q hash previous) x) s.active_head
     at-root n =
         let p = slot_or_none (parent_found s q previous) in
         rw (insert-is t x q hash p g.frame.counts f) (full-victim (insert t x q hash p) (its_heads s) s.active_head (λ i. i ≢ x) (root-good t (its_heads s) s.active_head x q hash p g f (rw n refl)))
 
-    at_fork : (p : ℕ) → parent_found s q previous ≡ some p → slot_of_head (its_heads s).tips p ≡ none → VictimIfFull (one_more (one_more (inserted s x q hash previous) x) p) s.active_head
+    at_fork : (p : ℕ) → parent_found s q previous ≡ Some p → slot_of_head (its_heads s).tips p ≡ None → VictimIfFull (one_more (one_more (inserted s x q hash previous) x) p) s.active_head
     at_fork p d n =
         let k : Fits t x q hash p = rw d at f in
         let w : Tables = one_more (record { blocks = insert t x q hash p; heads = its_heads s }) p in
         rw (d, insert-is t x q hash p g.frame.counts k)
-        (full-victim w.blocks (its_heads s) s.active_head (λ i. i ≢ x) (risen t (its_heads s) s.active_head x q hash (some p) previous arrival g k (parent_is t q previous p d).0 n))
+        (full-victim w.blocks (its_heads s) s.active_head (λ i. i ≢ x) (risen t (its_heads s) s.active_head x q hash (Some p) previous arrival g k (parent_is t q previous p d).0 n))
 
   pub finds-victims : (call : Call) → FindsVictims s call
   unfolding step

@@ -1,9 +1,8 @@
 -- What one call of a list does to the promises, and the calls that name no block anew.
-use Rattle.std.specs.Prelude.{if◌then◌else◌}
+use Rattle.std.specs.Prelude.{if◌then◌else◌, Option, Some}
 use mathlib.Core.Path.{◌≡◌, refl, sym, ap, ◌∙◌}
 use mathlib.Core.Logic.{◌≢◌, ◌⊎◌, inl, inr}
 use mathlib.Core.Bool.{true, false}
-use mathlib.Core.Option.{Option, some}
 use Prim.Native.Nat.{ℕ}
 use Rattle.rules.specs.Common.{is_at}
 use Rattle.rules.specs.Records.{NONE, Blocks, Tables, active, flags_at, block_at}
@@ -24,8 +23,8 @@ pub record Went (call : Call) (s : State) (w : Stepped) : Type 0 where
   pub stays : (i : ℕ) → Active s i → Active w.after i × (name w.after i ≡ name s i)
   pub new : (i : ℕ) → call ≡ promote_call i → Accepted w.answer → Active w.after i
   pub only : (i : ℕ) → Active w.after i → Active s i ⊎ ((call ≡ promote_call i) × Accepted w.answer)
-  pub given : (i : ℕ) (was : Option Name) → Occupied w.after i → (Occupied s i → was ≡ some (name s i))
-      → (if is_at (slot_returned w.answer) i then name_given call else was) ≡ some (name w.after i)
+  pub given : (i : ℕ) (was : Option Name) → Occupied w.after i → (Occupied s i → was ≡ Some (name s i))
+      → (if is_at (slot_returned w.answer) i then name_given call else was) ≡ Some (name w.after i)
 
 -- ---- active blocks are occupied
 
@@ -104,7 +103,7 @@ quiet call s w answer z g y mute never =
       stays = active-stays s z.tree.line sh w NONE f y;
       new = λ i e a. absurd (never i e a);
       only = λ i a. inl (active-was s z.tree.line sh w NONE f y v i a);
-      given = λ i was o h. let p = other_name s z.tree.line sh w NONE f y i (old i o) o in rw (mute i) (h p.0 ∙ ap some (sym p.1));
+      given = λ i was o h. let p = other_name s z.tree.line sh w NONE f y i (old i o) o in rw (mute i) (h p.0 ∙ ap Some (sym p.1));
     }
 
 pub turned-away : (call : Call) (s : State) (number : ℕ) → Sound s → Went call s (refuse s number)

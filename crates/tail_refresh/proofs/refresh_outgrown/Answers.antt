@@ -1,11 +1,12 @@
 -- By whether its tail has got a parent.
-use mathlib.Core.Path.{sym, ◌∙◌}
-use Rattle.tail_refresh.proofs.Outgrown.{refreshed, left_alone}
+use Rattle.std.proofs.Common.{rules}
+use Rattle.rules.specs.Admission.{refresh_outgrown}
 use Rattle.tail_refresh.proofs.refresh_outgrown.Goals as goal
 
 pub returns-then-has_outgrown : goal.returns-then-has_outgrown
-returns-then-has_outgrown c =
-    refreshed _ _ _ _ _ (sym c.has_outgrown.ensures ∙ c.if-has_outgrown.true) c.word_at.ensures c.refresh_head.ensures
+unfolding refresh_outgrown
+returns-then-has_outgrown c = search rules
 
 pub returns-else-has_outgrown : goal.returns-else-has_outgrown
-returns-else-has_outgrown c = left_alone _ _ _ (sym c.has_outgrown.ensures ∙ c.if-has_outgrown.false)
+unfolding refresh_outgrown
+returns-else-has_outgrown c = search rules

@@ -1,34 +1,25 @@
--- `least` is the least request time of the stored heads before `k`, if there is one.
-use native.Mathlib.Omega.{arith}
-use mathlib.Core.Path.{sym, ◌∙◌, ap}
-use mathlib.Core.Option.{some}
-use Rattle.timer.proofs.Soonest.{soonest-none, soonest-stays, soonest-later, soonest-taken, soonest-never, soonest-at}
+-- The least of the due times of the stored heads.
+use Rattle.std.proofs.Common.{ℕ, sym, ◌∙◌, rules, tests, refl, arith}
+use Rattle.std.proofs.lemmas.Iterator.{YieldsList-from_range, YieldsList-from_map, YieldsList-from_map_by}
+use Rattle.std.proofs.lemmas.Iterator.Consumers.{YieldsList-from_filter, YieldsList-at, min_from_yields_List}
+use Rattle.std.proofs.lemmas.Iterator.Adapters.{option_map_id}
+use Rattle.rules.specs.Records.{slots_of, stored, requested_at}
+use Rattle.rules.specs.Timer.{due, due_first, deadline}
+use Rattle.rules.specs.declared.HeadSlot.{HeadSlot}
+use Rattle.timer.proofs.Best.{least-best}
 use Rattle.timer.proofs.earliest_recovery_deadline.Goals as goal
-use Rattle.timer.proofs.earliest_recovery_deadline.Goals.{then-is_sooner+then-is_stored, then-is_sooner+else-is_stored, else-is_sooner}
-
-pub loop-k-init : goal.loop-k-init
-loop-k-init c = (omega arith, soonest-none _ _ _ _)
-
-pub loop-k-preserved : goal.loop-k-preserved
-loop-k-preserved c =
-    let l = c.loop-k in
-    let t = c.time_at-time.ensures in
-    let s = c.is_sooner.ensures in (
-      omega arith,
-      elim c.if-is_sooner.branch [
-        | then-is_sooner+then-is_stored w ↦ rw (w.any-is, w.least-is, t)
-            (soonest-taken _ _ _ _ l.any l.least l.k l.invariant.1 (rw (← t) (sym s ∙ w.if-is_sooner.true)) (sym w.is_stored.ensures ∙ w.if-is_stored.true))
-        | then-is_sooner+else-is_stored w ↦ rw (w.any-is, w.least-is)
-            (soonest-stays _ _ _ _ l.k (sym w.is_stored.ensures ∙ w.if-is_stored.false) ∙ l.invariant.1)
-        | else-is_sooner w ↦ rw (w.any-is, w.least-is)
-            (soonest-later _ _ _ _ l.any l.least l.k l.invariant.1 (rw (← t) (sym s ∙ w.if-is_sooner.false)))
-      ],
-    )
-
-pub returns-then-not-any : goal.returns-then-not-any
-returns-then-not-any c =
-    soonest-never _ _ _ _ c.loop-k.any c.loop-k.least c.loop-k.k c.loop-k.invariant.1 (omega (arith, c.slots-m.ensures)) c.if-not-any.true
 
 pub returns : goal.returns
+unfolding deadline due_first
 returns c =
-    ap some c.head_eligible_at.ensures ∙ soonest-at _ _ _ _ c.loop-k.any c.loop-k.least c.loop-k.k c.loop-k.invariant.1 (omega (arith, c.slots-m.ensures)) c.if-not-any.false
+    let a = c.args in
+    let n = slots_of a.tips.now in
+    let is_stored = stored a.tips.now a.connected.now in
+    let time = λ (k : ℕ). due (requested_at a.requested.now k) a.retry in
+    let slot = λ (head : HeadSlot). head.0 in
+    let numbers = YieldsList-from_range 0 c.slots.result n c.map.ensures.source (omega arith) in
+    sym (option_map_id c.min.result) ∙ min_from_yields_List c.map-2.result c.min.result c.min.ensures.ran
+    (YieldsList-from_map _ time (YieldsList-at c.map-2.ensures.source
+    (YieldsList-from_filter _ is_stored (YieldsList-at c.filter.ensures.source
+    (YieldsList-from_map_by _ slot (λ k. k) numbers refl (λ x y q k. search rules))) refl (λ x b q k. search (rules, tests))))
+    refl (λ x r q k. search (rules, tests))) ∙ least-best time is_stored n

@@ -3,5 +3,4 @@ use Rattle.trial_calls.proofs.Telling.{admit-tells}
 use Rattle.trial_calls.proofs.tell_admit.Goals as goal
 
 pub returns : goal.returns
-returns c =
-    admit-tells c.admit-answer.ensures.answers c.admit-answer.ensures.leaves c.admit_line.ensures
+returns c = admit-tells c.admit-answer.ensures c.admit_line.ensures

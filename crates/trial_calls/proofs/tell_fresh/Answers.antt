@@ -4,4 +4,5 @@ use Rattle.trial_calls.proofs.tell_fresh.Goals as goal
 
 pub returns : goal.returns
 returns c =
-    λ n m. fresh-tells c.fresh-recorded.ensures.answers c.fresh-recorded.ensures.leaves c.fresh-recorded.ensures.records c.is_done.ensures c.fresh_line.ensures
+    λ n m. fresh-tells c.fresh-answer.result c.args.active
+    c.fresh-answer.ensures c.unwrap_or.ensures c.is_ok.ensures.value c.fresh_line.ensures

@@ -3,5 +3,4 @@ use Rattle.trial_calls.proofs.Telling.{remove-tells}
 use Rattle.trial_calls.proofs.tell_remove.Goals as goal
 
 pub returns : goal.returns
-returns c =
-    remove-tells (c.remove-answer.ensures _).answers (c.remove-answer.ensures _).leaves c.remove_line.ensures
+returns c = remove-tells (c.remove-answer.ensures _) c.remove_line.ensures

@@ -3,5 +3,4 @@ use Rattle.trial_calls.proofs.Telling.{timer-tells}
 use Rattle.trial_calls.proofs.tell_timer.Goals as goal
 
 pub returns : goal.returns
-returns c =
-    timer-tells (c.timer-answer.ensures.0 _).answers (c.timer-answer.ensures.0 _).leaves c.timer_line.ensures
+returns c = timer-tells (c.timer-answer.ensures _) c.timer_line.ensures

@@ -3,5 +3,4 @@ use Rattle.trial_calls.proofs.Telling.{under-tells}
 use Rattle.trial_calls.proofs.tell_under.Goals as goal
 
 pub returns : goal.returns
-returns c =
-    under-tells (c.under-answer.ensures _).answers (c.under-answer.ensures _).leaves c.under_line.ensures
+returns c = under-tells (c.under-answer.ensures _) c.under_line.ensures

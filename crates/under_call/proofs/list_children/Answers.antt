@@ -6,11 +6,8 @@ use Rattle.under_call.proofs.list_children.Goals as goal
 use Rattle.under_call.proofs.list_children.Goals.{then-is_occupied, else-is_occupied}
 
 pub loop-i-preserved : goal.loop-i-preserved
-loop-i-preserved c = (
-  omega arith,
-  λ l. elim c.if-is_occupied.branch [
-    | then-is_occupied w ↦ rw (w.first-is, w.next-is, w.list_child.ensures.0, w.list_child.ensures.1)
-        (list-block _ _ c.loop-i.i _ _ (c.loop-i.invariant.1 l) (omega (arith, c.slots-n.ensures)) (sym w.if-is_occupied.ensures))
-    | else-is_occupied w ↦ rw (w.first-is, w.next-is) (skip-empty _ _ c.loop-i.i _ _ (c.loop-i.invariant.1 l) (sym w.if-is_occupied.ensures))
-  ],
-)
+loop-i-preserved c l = elim c.if-is_occupied.branch [
+  | then-is_occupied w ↦ rw (w.first-is, w.next-is, w.list_child.ensures.0, w.list_child.ensures.1)
+      (list-block _ _ c.loop-i.i _ _ (c.loop-i.invariant l) (omega (arith, c.slots-i-end.ensures)) (sym w.if-is_occupied.ensures))
+  | else-is_occupied w ↦ rw (w.first-is, w.next-is) (skip-empty _ _ c.loop-i.i _ _ (c.loop-i.invariant l) (sym w.if-is_occupied.ensures))
+]

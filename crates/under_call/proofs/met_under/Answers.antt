@@ -3,6 +3,7 @@ use native.Mathlib.Omega.{arith}
 use mathlib.Core.Path.{ap, ◌∙◌}
 use Prim.Native.Nat.{◌-◌}
 use Rattle.under_call.proofs.Lists.{none-listed}
+use Rattle.under_call.proofs.Higher.{higher}
 use Rattle.under_call.proofs.Down.{from-few, root-slot, root-placed, root-number, root-highest}
 use Rattle.under_call.proofs.met_under.Goals as goal
 
@@ -16,7 +17,7 @@ go_down-met-requires c =
     let (small, there) = c.requires in
     let listed = c.list_children.ensures (none-listed a.parents.now a.sequences.now small) in (
       omega (arith, c.slots.ensures),
-      (a.parents.now, root-placed a.parents.now a.sequences.now _ _ a.root.0 small listed there c.word_at.result c.word_at.ensures),
+      (a.parents.now, root-placed a.parents.now a.sequences.now _ _ a.root.0 small listed there c.cell_at.result c.cell_at.ensures),
     )
 
 pub overflow_add-blocks : goal.overflow_add-blocks
@@ -24,7 +25,7 @@ overflow_add-blocks c =
     let a = c.args in
     let (small, there) = c.requires in
     let listed = c.list_children.ensures (none-listed a.parents.now a.sequences.now small) in
-    let placed = root-placed a.parents.now a.sequences.now _ _ a.root.0 small listed there c.word_at.result c.word_at.ensures in
+    let placed = root-placed a.parents.now a.sequences.now _ _ a.root.0 small listed there c.cell_at.result c.cell_at.ensures in
     omega (arith, (c.go_down-met.ensures a.parents.now placed).0, from-few a.parents.now a.sequences.now _ _ (c.slots.result - 1) _ (omega (arith, c.slots.ensures)) placed)
 
 pub returns : goal.returns
@@ -32,9 +33,9 @@ returns c =
     let a = c.args in
     let (small, there) = c.requires in
     let listed = c.list_children.ensures (none-listed a.parents.now a.sequences.now small) in
-    let placed = root-placed a.parents.now a.sequences.now _ _ a.root.0 small listed there c.word_at.result c.word_at.ensures in
+    let placed = root-placed a.parents.now a.sequences.now _ _ a.root.0 small listed there c.cell_at.result c.cell_at.ensures in
     let (number, most) = c.go_down-met.ensures a.parents.now placed in (
-      root-number a.parents.now a.sequences.now _ _ a.root.0 small listed there _ _ _ 0 c.word_at.ensures (ap (λ n. n - 1) c.slots.ensures) number,
-      c.higher-highest.ensures
-          ∙ root-highest a.parents.now a.sequences.now _ _ a.root.0 small listed there _ _ 0 _ c.word_at.ensures (ap (λ n. n - 1) c.slots.ensures) _ c.word_at-2.ensures most,
+      root-number a.parents.now a.sequences.now _ _ a.root.0 small listed there _ _ _ 0 c.cell_at.ensures (ap (λ n. n - 1) c.slots.ensures) number,
+      higher _ _ _ c.max-highest.ensures
+          ∙ root-highest a.parents.now a.sequences.now _ _ a.root.0 small listed there _ _ 0 _ c.cell_at.ensures (ap (λ n. n - 1) c.slots.ensures) _ c.cell_at-2.ensures most,
     )

@@ -10,12 +10,12 @@ returns-then-not-is_shaped c = λ active. misshapen _ _ (sym c.if-not-is_shaped.
 pub returns-then-not-is_occupied : goal.returns-then-not-is_occupied
 returns-then-not-is_occupied c = λ active. no_block _ _ (sym c.if-not-is_shaped.ensures) (sym c.if-not-is_occupied.ensures)
 
-pub met_under-met-requires : goal.met_under-met-requires
-met_under-met-requires c =
+pub met_under-requires : goal.met_under-requires
+met_under-requires c =
     let tables = tables_of c.args.hashes.now c.args.parents.now c.args.sequences.now c.args.counts.now c.args.flags.now c.args.tips.now c.args.tails.now
     c.args.missing.now c.args.requested.now c.args.arrivals.now c.args.connected.now in
     (few-slots tables (sym c.if-not-is_shaped.ensures), sym c.if-not-is_occupied.ensures)
 
 pub returns : goal.returns
 returns c =
-    λ active. counted _ _ (sym c.if-not-is_shaped.ensures) (sym c.if-not-is_occupied.ensures) _ _ c.met_under-met.ensures.0 c.met_under-met.ensures.1
+    λ active. counted _ _ (sym c.if-not-is_shaped.ensures) (sym c.if-not-is_occupied.ensures) _ _ c.met_under.ensures.0 c.met_under.ensures.1

@@ -1,20 +1,20 @@
--- A turn puts the row of the key at `i` in its place.
-use Rattle.std.proofs.Common.{arith, sym, length-set}
-use Rattle.station.proofs.Filled.{fill_none, fill-next}
+-- What is answered is as many as are filled in.
+use Rattle.std.proofs.Common.{◌∙◌}
+use Rattle.station.proofs.Filled.{unwrapped, number-shown, rows-shown}
 use Rattle.station.proofs.screen.station_screen.Goals as goal
 
-pub loop-i-init : goal.loop-i-init
-loop-i-init c = record {
-  within = omega arith;
-  few = (c.list_rows-listed.ensures 0).few;
-  fits = (c.list_rows-listed.ensures 0).fits;
-  fills = sym (fill_none _ _);
-}
+pub fill_rows-requires : goal.fill_rows-requires
+fill_rows-requires c =
+    let s = c.screen-screened.ensures 0 in
+    let many = c.unwrap_or-many.ensures ∙ unwrapped c.screen-screened.result in
+    record { few = rw many s.few; fits = rw many s.fits }
 
-pub loop-i-preserved : goal.loop-i-preserved
-loop-i-preserved c = record {
-  within = omega arith;
-  few = c.loop-i.invariant.few;
-  fits = rw length-set c.loop-i.invariant.fits;
-  fills = rw (fill-next, c.row_at.ensures, ← c.loop-i.invariant.fills);
-}
+pub returns : goal.returns
+returns c = λ active.
+    let s = c.screen-screened.ensures active in
+    let many = c.unwrap_or-many.ensures ∙ unwrapped c.screen-screened.result in
+    record {
+      answers = c.call_number.ensures ∙ number-shown _ s;
+      shows = rw many at c.fill_rows.ensures ∙ rows-shown _ s _;
+      leaves = s.does.leaves;
+    }

@@ -1,19 +1,16 @@
--- No space stands before `i`.
-use native.Mathlib.Omega.{arith}
-use Rattle.trial_lines.proofs.Bytes.{field-goes, field-stops, field_end}
+-- Where the first space is found.
+use mathlib.Core.Path.{◌≡◌, ◌∙◌}
+use Rattle.std.proofs.Common.{rules, tests, eqb}
+use Rattle.std.specs.Prelude.{position}
+use Rattle.std.proofs.lemmas.Iterator.{YieldsList-from_slice}
+use Rattle.std.proofs.lemmas.Iterator.Search.{position_from_yields_List}
+use Rattle.trial_lines.proofs.Bytes.{field_found}
 use Rattle.trial_lines.proofs.fields.field_length.Goals as goal
-
-pub returns-then-line-i-eq32 : goal.returns-then-line-i-eq32
-returns-then-line-i-eq32 c =
-    let h = field-stops c.args.line.now c.loop-i.i (omega arith) c.if-line-i-eq32.true in
-    omega arith
-
-pub loop-i-preserved : goal.loop-i-preserved
-loop-i-preserved c =
-    let h = field-goes c.args.line.now c.loop-i.i (omega arith) c.if-line-i-eq32.false in
-    (omega arith, omega arith)
 
 pub returns : goal.returns
 returns c =
-    let h = field_end c.args.line.now c.loop-i.i (omega arith) in
-    omega arith
+    let l = c.args.line.now in
+    let r = c.position.result in
+    let e : r ≡ position (λ b. eqb b 32) l =
+    position_from_yields_List _ _ _ r c.position.ensures.ran (YieldsList-from_slice l cc) (λ x b q k. search (rules, tests)) in
+    c.unwrap_or.ensures ∙ rw e (field_found l)

@@ -1,4 +1,5 @@
 -- Piece by piece.
+use Rattle.std.proofs.Common.{rules}
 use Rattle.trial_lines.proofs.Places.{end, then}
 use Rattle.trial_lines.proofs.Pieces.{row-pieces}
 use Rattle.trial_lines.proofs.lines.row_line.Goals as goal
@@ -13,4 +14,4 @@ returns c =
     (then c.put-e.ensures
     (then c.put_reference-f.ensures
     (then c.put.ensures end)))))))
-    c.pick.ensures
+    (search rules)

@@ -5,16 +5,16 @@ use Rattle.trial_notes.specs.Texts.{note_text}
 use Rattle.trial_notes.proofs.Pieces.{note-pieces}
 use Rattle.trial_notes.proofs.text.put_note.Goals as goal
 
-pub returns-in-Nothing : goal.returns-in-Nothing
+pub returns-in-None : goal.returns-in-None
 unfolding note_text
-returns-in-Nothing c = rw c.in-Nothing.is (put-none _ _)
+returns-in-None c = rw c.in-None.is (put-none _ _)
 
-pub returns-in-Is : goal.returns-in-Is
+pub returns-in-Some : goal.returns-in-Some
 unfolding bytes_from bytes
-returns-in-Is c =
-    rw c.in-Is.is (note-pieces _ _ _ _ _ _
+returns-in-Some c =
+    rw c.in-Some.is (note-pieces _ _ _ _ _ _
     (then c.put_text-a.ensures
     (then c.put_number-b.ensures
     (then c.put_text-c.ensures
-    (then c.put_reason-d.ensures
+    (then (rw c.reason_text.ensures at c.put_text-d.ensures)
     (then c.put.ensures end))))))

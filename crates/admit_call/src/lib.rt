@@ -9,7 +9,7 @@ ghost use Rattle.rules.specs.Calls.{state_of, admit as admit_rule, Does};
 use admit_reply::reply;
 use admit_step::admit_at;
 use cells::hash_at;
-use rules::{BlockSlot, Refusal, Sequence};
+use rules::{BlockSlot, Refusal, Sequence, View};
 
 // Inserts the block, tells the heads and returns the new slot; a refusal changes nothing.
 pub fn admit(
@@ -38,10 +38,20 @@ pub fn admit(
         tips.old tails.old missing.old requested.old arrivals.old connected.old) active.0)
         sequence.0 hash.now previous.now arrival) }
 {
-    let slot = reply(
-        hashes, parents, sequences, counts, flags, tips, tails, missing, requested, arrivals,
-        connected, sequence, hash, previous,
-    )?;
+    let view = View {
+        hashes,
+        parents,
+        sequences,
+        counts,
+        flags,
+        tips,
+        tails,
+        missing,
+        requested,
+        arrivals,
+        connected,
+    };
+    let slot = reply(&view, sequence, hash, previous)?;
     admit_at(
         hashes,
         parents,

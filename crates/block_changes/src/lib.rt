@@ -6,7 +6,7 @@ ghost use Rattle.rules.specs.Records.{occupied, put_block, blocks_of};
 ghost use Rattle.rules.specs.BlockTable.{delete as delete_rule, insertion, insert as insert_rule, insert_at, resolve_parent, set_parent};
 ghost use Rattle.rules.specs.Answers.{insertion_made};
 
-use blocks::{is_occupied, next_free_index};
+use blocks::{is_occupied, next_free_index, set_occupied};
 use cells::{put_cell, put_hash, slots};
 use rules::{Block, BlockSlot, InsertError, Sequence};
 
@@ -109,7 +109,7 @@ pub fn resolve_parent_ref(parents: &mut [u32], slot: BlockSlot, parent: BlockSlo
 }
 
 // Sets the slot's parent and tells whether the slot is occupied; an empty slot keeps its parent.
-#[tactic(auto, unfolding(rules::specs::BlockTable::set_parent, rules::specs::BlockTable::set_occupied, rules::specs::BlockTable::resolve_parent))]
+#[tactic(auto, unfolding(rules::specs::BlockTable::set_parent))]
 pub fn set_parent_ref(
     parents: &mut [u32],
     sequences: &[u32],
@@ -119,9 +119,5 @@ pub fn set_parent_ref(
     ensures { (result ≡ occupied sequences.now slot.0)
         × (parents.new ≡ set_parent parents.old sequences.now slot.0 parent.0) }
 {
-    let there = is_occupied(sequences, slot);
-    if there {
-        resolve_parent_ref(parents, slot, parent);
-    }
-    there
+    set_occupied(sequences, parents, slot, parent.0)
 }

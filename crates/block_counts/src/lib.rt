@@ -5,12 +5,12 @@ ghost use Rattle.std.specs.Prelude.{◌≡◌};
 ghost use Rattle.rules.specs.Records.{occupied};
 ghost use Rattle.rules.specs.BlockTable.{adjusted_at, adjust_counts, set_occupied};
 
-use blocks::is_occupied;
-use cells::{cell_at, put_cell};
+use blocks::set_occupied;
+use cells::cell_at;
 use rules::BlockSlot;
 
 // Adds a signed change to the count, which stops at 0 and 255, and gives the new count; on an empty slot it gives and changes nothing.
-#[tactic(auto, unfolding(rules::specs::BlockTable::adjusted, rules::specs::BlockTable::adjusted_at, rules::specs::BlockTable::adjust_counts))]
+#[tactic(auto, unfolding(rules::specs::BlockTable::adjusted, rules::specs::BlockTable::adjusted_at, rules::specs::BlockTable::adjust_counts, rules::specs::BlockTable::set_occupied))]
 pub fn adjust_head_ref_count(
     sequences: &[u32],
     counts: &mut [u8],
@@ -20,23 +20,14 @@ pub fn adjust_head_ref_count(
     ensures { (result ≡ adjusted_at sequences.now counts.old slot.0 change)
         × (counts.new ≡ adjust_counts sequences.now counts.old slot.0 change) }
 {
-    if !is_occupied(sequences, slot) {
-        return None;
-    }
     let next = cell_at(counts, slot.0).saturating_add_signed(change);
-    put_cell(counts, slot.0, next);
-    Some(next)
+    set_occupied(sequences, counts, slot, next).then_some(next)
 }
 
 // Sets the slot's count and tells whether the slot is occupied; an empty slot keeps its count.
-#[tactic(auto, unfolding(rules::specs::BlockTable::set_occupied))]
 pub fn set_head_ref_count(sequences: &[u32], counts: &mut [u8], slot: BlockSlot, count: u8) -> bool
     ensures { (result ≡ occupied sequences.now slot.0)
         × (counts.new ≡ set_occupied sequences.now counts.old slot.0 count) }
 {
-    if !is_occupied(sequences, slot) {
-        return false;
-    }
-    put_cell(counts, slot.0, count);
-    true
+    set_occupied(sequences, counts, slot, count)
 }

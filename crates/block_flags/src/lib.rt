@@ -5,8 +5,8 @@ ghost use Rattle.std.specs.Prelude.{◌≡◌};
 ghost use Rattle.rules.specs.Records.{occupied, status_number, with_status, with_bit0};
 ghost use Rattle.rules.specs.BlockTable.{set_on_active_chain, set_status};
 
-use blocks::is_occupied;
-use cells::{cell_at, put_cell};
+use blocks::set_occupied;
+use cells::cell_at;
 use rules::{BlockSlot, BlockStatus};
 
 // The byte with bit 0 set or cleared, its other bits as they were.
@@ -17,7 +17,7 @@ pub fn with_bit0(byte: u8, value: bool) -> u8
 }
 
 // Sets or clears bit 0 of the slot's flags and tells whether the slot is occupied; an empty slot keeps its flags.
-#[tactic(auto, unfolding(rules::specs::BlockTable::set_on_active_chain, rules::specs::BlockTable::set_occupied))]
+#[tactic(auto, unfolding(rules::specs::BlockTable::set_on_active_chain))]
 pub fn set_on_active_chain(
     sequences: &[u32],
     flags: &mut [u8],
@@ -27,12 +27,8 @@ pub fn set_on_active_chain(
     ensures { (result ≡ occupied sequences.now slot.0)
         × (flags.new ≡ set_on_active_chain sequences.now flags.old slot.0 value) }
 {
-    if !is_occupied(sequences, slot) {
-        return false;
-    }
-    let bits = cell_at(flags, slot.0);
-    put_cell(flags, slot.0, with_bit0(bits, value));
-    true
+    let bits = with_bit0(cell_at(flags, slot.0), value);
+    set_occupied(sequences, flags, slot, bits)
 }
 
 #[tactic(auto, unfolding(rules::specs::Records::with_status))]
@@ -43,15 +39,11 @@ fn with_status(bits: u8, status: BlockStatus) -> u8
 }
 
 // Sets bits 1 and 2 of the slot's flags and tells whether the slot is occupied; an empty slot keeps its flags.
-#[tactic(auto, unfolding(rules::specs::BlockTable::set_status, rules::specs::BlockTable::set_occupied))]
+#[tactic(auto, unfolding(rules::specs::BlockTable::set_status))]
 pub fn set_status(sequences: &[u32], flags: &mut [u8], slot: BlockSlot, status: BlockStatus) -> bool
     ensures { (result ≡ occupied sequences.now slot.0)
         × (flags.new ≡ set_status sequences.now flags.old slot.0 (status_number status)) }
 {
-    if !is_occupied(sequences, slot) {
-        return false;
-    }
-    let bits = cell_at(flags, slot.0);
-    put_cell(flags, slot.0, with_status(bits, status));
-    true
+    let bits = with_status(cell_at(flags, slot.0), status);
+    set_occupied(sequences, flags, slot, bits)
 }

@@ -40,22 +40,14 @@ pub fn get(
 pub fn head_ref_count(sequences: &[u32], counts: &[u8], slot: BlockSlot) -> Option<u8>
     ensures { result ≡ head_ref_count sequences.now counts.now slot.0 }
 {
-    if is_occupied(sequences, slot) {
-        Some(cell_at(counts, slot.0))
-    } else {
-        None
-    }
+    is_occupied(sequences, slot).then_some(cell_at(counts, slot.0))
 }
 
-#[tactic(auto, unfolding(rules::specs::Records::status_of))]
-fn status_bits(bits: u8) -> BlockStatus
+#[tactic(auto, unfolding(rules::specs::Records::status_of, rules::specs::Records::status_from))]
+fn status_of(bits: u8) -> BlockStatus
     ensures { status_number result ≡ status_of bits }
 {
-    match bits / 2 % 4 {
-        1 => BlockStatus::Connected,
-        2 => BlockStatus::Active,
-        _ => BlockStatus::Stored,
-    }
+    BlockStatus::of(u32::from(bits / 2 % 4))
 }
 
 // The status of the block in a slot, where 3 reads as Stored; nothing for an empty or out-of-range slot.
@@ -63,9 +55,5 @@ fn status_bits(bits: u8) -> BlockStatus
 pub fn status(sequences: &[u32], flags: &[u8], slot: BlockSlot) -> Option<BlockStatus>
     ensures { status_got result ≡ status_at sequences.now flags.now slot.0 }
 {
-    if is_occupied(sequences, slot) {
-        Some(status_bits(cell_at(flags, slot.0)))
-    } else {
-        None
-    }
+    is_occupied(sequences, slot).then_some(status_of(cell_at(flags, slot.0)))
 }

@@ -3,24 +3,26 @@ use mathlib.Core.Path.{◌≡◌}
 use mathlib.Core.Logic.{◌≢◌}
 use mathlib.Core.Bool.{false, not}
 use mathlib.Core.List.{List}
-use Rattle.std.specs.Prelude.{None}
-use Prim.Native.Nat.{ℕ, ◌+◌, ◌<◌}
+use Rattle.std.specs.Prelude.{None, Some}
+use Prim.Native.Nat.{ℕ, ◌+◌}
 use native.Mathlib.Omega.{arith}
 use lib.Dec.{eqb}
 use Rattle.rules.specs.Common.{lowest}
 use Rattle.rules.specs.Hashes.{hash_at, same_hash}
-use Rattle.rules.specs.Records.{NONE, slots_of, sequence_at, occupied}
-use Rattle.rules.specs.BlockTable.{is_block}
+use Rattle.rules.specs.Records.{NONE, sequence_at, occupied}
+use Rattle.rules.specs.BlockTable.{is_block, next_free}
 use Rattle.rules.proofs.Search.{lowest-none, lowest-skips, lowest-next}
 use Rattle.cells.specs.Places.{next_at}
-use Rattle.cells.proofs.Places.{Searched, search-first, search-from, lowest-there, lowest-nowhere}
+use Rattle.cells.proofs.Places.{Searched, search-first, search-from, next-lowest}
 
 pub free : (sequences : List ℕ) (i : ℕ) → not (occupied sequences i) ≡ eqb (sequence_at sequences i) NONE
 unfolding occupied
 free sequences i = grind arith
 
--- what the next slot without a block says of the lowest
-pub ruleset next_free_slot = (free, lowest-there, lowest-nowhere)
+-- the next slot without a block is the lowest
+pub next_free_slot : (sequences : List ℕ) → next_at sequences 0 NONE ≡ next_free sequences
+unfolding next_free
+next_free_slot sequences = next-lowest sequences NONE _ (free sequences)
 
 module _ (hashes sequences : List ℕ) (sequence : ℕ) (hash : List ℕ) where
   other : (i : ℕ) → sequence_at sequences i ≢ sequence → is_block hashes sequences sequence hash i ≡ false
@@ -43,7 +45,7 @@ module _ (hashes sequences : List ℕ) (sequence : ℕ) (hash : List ℕ) where
   pub found-first : Searched sequences sequence (is_block hashes sequences sequence hash) (next_at sequences 0 sequence)
   found-first = search-first sequences sequence _ other
 
-  pub found-next : (i : ℕ) → i < slots_of sequences → Searched sequences sequence (is_block hashes sequences sequence hash) i
+  pub found-next : (i : ℕ) → Searched sequences sequence (is_block hashes sequences sequence hash) (Some i)
       → is_block hashes sequences sequence hash i ≡ false
       → Searched sequences sequence (is_block hashes sequences sequence hash) (next_at sequences (i + 1) sequence)
-  found-next i l s f = search-from sequences sequence _ other (i + 1) (omega arith) (lowest-next _ i s.1.0 f)
+  found-next i s f = search-from sequences sequence _ other (i + 1) (omega (arith, s.0)) (lowest-next _ i s.1.0 f)

@@ -10,10 +10,10 @@ use query_numbers::Numbered;
 use rules::{Hanging, HeadSlot, Refusal, Request};
 
 // The refusal in the upper half.
-pub fn refusal(why: Refusal) -> u64
+fn refusal(why: Refusal) -> u64
     ensures { result ≡ refusal_number why * 4294967296 }
 {
-    why.number() as u64 * 4294967296
+    u64::from(why.number()) * 4294967296
 }
 
 // What a call gives, as its number, or the refusal in the upper half.
@@ -21,7 +21,7 @@ pub fn call_number<A: Numbered>(answer: Result<A, Refusal>) -> u64
     ensures { result ≡ result_number A.number answer }
 {
     match answer {
-        Ok(given) => given.number() as u64,
+        Ok(given) => u64::from(given.number()),
         Err(refused) => refusal(refused),
     }
 }
@@ -34,7 +34,7 @@ pub fn hanging_number(answer: Result<Hanging, Refusal>, highest: &mut [u32]) -> 
     match answer {
         Ok(hanging) => {
             put_cell(highest, 0, hanging.highest.0);
-            hanging.blocks as u64
+            u64::from(hanging.blocks)
         }
         Err(why) => refusal(why),
     }
@@ -54,9 +54,9 @@ pub fn timed_number(
         Ok(Some(request)) => {
             put_cell(claimed, 0, request.claimed.0);
             put_hash(wanted, 0, request.missing);
-            request.head.0 as u64
+            u64::from(request.head.0)
         }
-        Ok(None) => HeadSlot::NONE_REF.0 as u64,
+        Ok(None) => u64::from(HeadSlot::NONE_REF.0),
         Err(why) => refusal(why),
     }
 }
@@ -81,5 +81,5 @@ pub fn deadline_number(answer: Result<Option<u64>, Refusal>, time: &mut [u64]) -
 pub fn span_from(given: u32, span: u64) -> Option<u64>
     ensures { result ≡ span_from given span }
 {
-    if given == 0 { None } else { Some(span) }
+    (given != 0).then_some(span)
 }

@@ -1,19 +1,20 @@
 -- The next slot with a value: what a search has passed over, and where it ends.
-use mathlib.Core.Path.{◌≡◌, sym, ◌∙◌}
+use mathlib.Core.Path.{◌≡◌, subst, ◌∙◌}
 use mathlib.Core.Logic.{◌≢◌}
-use mathlib.Core.Bool.{Bool, true, false, not}
+use mathlib.Core.Bool.{Bool, true, false, not, ◌&&◌}
 use mathlib.Core.List.{List}
-use Rattle.std.specs.Prelude.{None, Some}
-use Prim.Native.Nat.{ℕ, ◌<◌, ◌≤◌}
+use Rattle.std.specs.Prelude.{Option, None, Some}
+use Prim.Native.Nat.{ℕ, suc, ◌+◌, ◌-◌, ◌<◌, ◌≤◌}
 use native.Mathlib.Omega.{arith}
 use borrow.Author.Tests.{eq-eqb, ne_eqb, lt-ltb, le-ltb, eqb-true, ltb-false, not-true}
-use lib.Dec.{eqb, ltb}
+use lib.Dec.{eqb, ltb, leb}
 use lib.ListN.{length, get_or}
+use Rattle.std.proofs.lemmas.Bool.{le-leb, lt-leb}
 use Rattle.rules.specs.Common.{lowest}
 use Rattle.rules.specs.Records.{NONE, slots_of}
 use Rattle.rules.proofs.Cells.{get_d_any}
 use Rattle.rules.proofs.Splits.{split, less?, option?, and-true, true-not-false}
-use Rattle.rules.proofs.Search.{lowest-none, lowest-skips, lowest-fewer, lowest-at, lowest-holds, lowest-misses, lowest-least}
+use Rattle.rules.proofs.Search.{lowest-skips, lowest-holds, lowest-misses, lowest-least, lowest-none, lowest-ext}
 use Rattle.cells.specs.Places.{holds_from, next_at}
 
 -- in range the default does not matter
@@ -33,9 +34,9 @@ module _ (words : List ℕ) (from value : ℕ) where
   unfolding holds_from
   differs k ne = split (ltb k from) (λ t. rw t) (λ f. rw (f, ne_eqb (get_or words k NONE) value ne))
 
-  holds : (k : ℕ) → from ≤ k → get_or words k NONE ≡ value → holds_from words from value k ≡ true
+  pub holds : (k : ℕ) → from ≤ k → holds_from words from value k ≡ eqb (get_or words k NONE) value
   unfolding holds_from
-  holds k l e = rw (le-ltb k from l, eq-eqb (get_or words k NONE) value e)
+  holds k l = rw (le-ltb k from l)
 
   held : (k : ℕ) → holds_from words from value k ≡ true → (from ≤ k) × (get_or words k NONE ≡ value)
   unfolding holds_from
@@ -43,76 +44,62 @@ module _ (words : List ℕ) (from value : ℕ) where
       let p = and-true (not (ltb k from)) (eqb (get_or words k NONE) value) t in
       (ltb-false k from (not-true (ltb k from) p.0), eqb-true (get_or words k NONE) value p.1)
 
-  -- a search from 0 has found nothing before k
-  passed : (k : ℕ) → ((j : ℕ) → from ≤ j → j < k → get_or words j NONE ≢ value) → lowest (holds_from words from value) k ≡ None
-  passed k d = lowest-skips _ 0 k (omega arith) (lowest-none _)
-      (λ j l m. less? j from (below j) (λ b. differs j (d j b m)))
-
-  at_none : lowest (holds_from words from value) (slots_of words) ≡ None → next_at words from value ≡ slots_of words
+  -- what is passed over need not be looked at
+  pub next-from : (k : ℕ) → Differ k → lowest (λ j. leb k j && eqb (get_or words j NONE) value) (slots_of words) ≡ next_at words from value
   unfolding next_at
-  at_none e = rw (e, next_at)
+  next-from k d = lowest-ext _ _ (slots_of words) (λ j l. less? j k
+      (λ b. rw (lt-leb k j b, less? j from (below j) (λ a. differs j (d.1 j a b))))
+      (λ a. rw (le-leb k j a, holds j (omega (arith, d.0)))))
 
-  at_some : (k : ℕ) → lowest (holds_from words from value) (slots_of words) ≡ Some k → next_at words from value ≡ k
-  unfolding next_at
-  at_some k e = rw (e, next_at)
+pub slots-few : (words : List ℕ) → slots_of words ≤ NONE
+unfolding slots_of
+slots-few words = omega arith
 
-  pub next-found : (k : ℕ) → Differ k → k < slots_of words → get_or words k NONE ≡ value → k ≡ next_at words from value
-  next-found k d l e = sym (at_some k (lowest-at _ k (slots_of words) (passed k d.1) (holds k d.0 e) l))
+-- how much is left to look at from the next slot on
+abbrev pub left : (words : List ℕ) (next : Option ℕ) → ℕ
+left words None = 0
+left words (Some i) = suc (slots_of words - i)
 
-  pub next-nothing : (k : ℕ) → Differ k → slots_of words ≤ k → slots_of words ≡ next_at words from value
-  next-nothing k d l = sym (at_none (passed (slots_of words) (λ j a m. d.1 j a (omega arith))))
-
-  -- what callers use: the slot holds the value, and none from `from` to before it does
-  pub next-holds : next_at words from value < slots_of words
-      → (from ≤ next_at words from value) × (get_or words (next_at words from value) NONE ≡ value)
-  next-holds l = option? (lowest (holds_from words from value) (slots_of words))
-      (λ e. absurd (omega (arith, at_none e)))
-      (λ k e. rw (at_some k e) (held k (lowest-holds _ (slots_of words) k e).1))
-
-  pub next-first : (j : ℕ) → from ≤ j → j < slots_of words → j < next_at words from value → get_or words j NONE ≢ value
-  next-first j a b m q = option? (lowest (holds_from words from value) (slots_of words))
-      (λ e. true-not-false (holds j a q) (lowest-misses _ (slots_of words) j e b))
-      (λ k e. true-not-false (holds j a q) (lowest-least _ (slots_of words) k j e (omega (arith, at_some k e))))
-
-  pub next-few : next_at words from value ≤ slots_of words
-  next-few = option? (lowest (holds_from words from value) (slots_of words))
-      (λ e. omega (arith, at_none e))
-      (λ k e. omega (arith, at_some k e, (lowest-holds _ (slots_of words) k e).0))
-
-  pub next-after : from ≤ slots_of words → from ≤ next_at words from value
-  next-after l = less? (next_at words from value) (slots_of words) (λ b. (next-holds b).0) (λ b. omega arith)
+pub next-left : (words : List ℕ) (i value : ℕ) → i < slots_of words → left words (next_at words (i + 1) value) < left words (Some i)
+unfolding next_at
+next-left words i value l = option? (lowest (holds_from words (i + 1) value) (slots_of words))
+    (λ n. rw n (omega arith))
+    (λ k s. rw s (omega (arith, l, (lowest-holds _ (slots_of words) k s).0, (held words (i + 1) value k (lowest-holds _ (slots_of words) k s).1).0)))
 
 -- ---- a search by a test that no slot with another value passes
 
 module _ (words : List ℕ) (value : ℕ) (test : ℕ → Bool) where
-  -- nothing before i passes, and i has the value if it is a slot
-  abbrev pub Searched : ℕ → Type 0
-  Searched i = (i ≤ slots_of words) × ((lowest test i ≡ None) × (i < slots_of words → get_or words i NONE ≡ value))
+  -- nothing before the next slot with the value passes
+  abbrev pub Searched : Option ℕ → Type 0
+  Searched None = lowest test (slots_of words) ≡ None
+  Searched (Some i) = (i < slots_of words) × ((lowest test i ≡ None) × (get_or words i NONE ≡ value))
+
+  pub searched : (next : Option ℕ) (is : Option ℕ) → next ≡ is → Searched next → Searched is
+  searched next is e s = subst Searched e s
 
   module _ (other : (j : ℕ) → get_or words j NONE ≢ value → test j ≡ false) where
     pub search-from : (from : ℕ) → from ≤ slots_of words → lowest test from ≡ None → Searched (next_at words from value)
-    search-from from l e =
-        let i = next_at words from value in
-        let few = next-few words from value in (
-          few,
+    unfolding next_at
+    search-from from l e = option? (lowest (holds_from words from value) (slots_of words))
+        (λ n. rw n (lowest-skips test from (slots_of words) l e
+        (λ j a b. other j (λ q. true-not-false (holds words from value j a ∙ eq-eqb (get_or words j NONE) value q) (lowest-misses _ (slots_of words) j n b)))))
+        (λ k s.
+        let there = lowest-holds _ (slots_of words) k s in
+        let has = held words from value k there.1 in
+        rw s (
+          there.0,
           (
-            lowest-skips test from i (next-after words from value l) e (λ j a b. other j (next-first words from value j a (omega arith) b)),
-            λ b. (next-holds words from value b).1,
+            lowest-skips test from k has.0 e
+                (λ j a b. other j (λ q. true-not-false (holds words from value j a ∙ eq-eqb (get_or words j NONE) value q) (lowest-least _ (slots_of words) k j s b))),
+            has.1,
           ),
-        )
+        ))
 
     pub search-first : Searched (next_at words 0 value)
     search-first = search-from 0 (omega arith) (lowest-none test)
 
 -- a test that says no more than that the slot has the value
-module _ (words : List ℕ) (value : ℕ) (test : ℕ → Bool) (says : (j : ℕ) → test j ≡ eqb (get_or words j NONE) value) where
-  first : Searched words value test (next_at words 0 value)
-  first = search-first words value test (λ j ne. says j ∙ ne_eqb (get_or words j NONE) value ne)
-
-  pub lowest-there : next_at words 0 value < slots_of words → lowest test (slots_of words) ≡ Some (next_at words 0 value)
-  lowest-there l =
-      let i = next_at words 0 value in
-      lowest-at test i (slots_of words) first.1.0 (says i ∙ eq-eqb (get_or words i NONE) value (first.1.1 l)) l
-
-  pub lowest-nowhere : slots_of words ≤ next_at words 0 value → lowest test (slots_of words) ≡ None
-  lowest-nowhere l = lowest-fewer test (slots_of words) (next_at words 0 value) l first.1.0
+pub next-lowest : (words : List ℕ) (value : ℕ) (test : ℕ → Bool) → ((j : ℕ) → test j ≡ eqb (get_or words j NONE) value)
+    → next_at words 0 value ≡ lowest test (slots_of words)
+unfolding next_at
+next-lowest words value test says = lowest-ext _ _ (slots_of words) (λ j l. rw (holds words 0 value j (omega arith), says j))

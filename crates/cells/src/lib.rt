@@ -2,16 +2,16 @@
 // Hashes by value: read, written, and compared from the first byte on.
 #![tactic(auto)]
 
-ghost use Rattle.std.specs.Prelude.{◌≡◌, ◌≢◌, true, ℕ, ◌+◌, ◌<◌, ◌≤◌, get_or, set};
+ghost use Rattle.std.specs.Prelude.{◌≡◌, ◌≢◌, true, false, ℕ, ◌+◌, ◌<◌, ◌≤◌, get_or, set};
 ghost use Rattle.cells.specs.Places.{next_at};
 ghost use Rattle.rules.specs.Hashes.{hash_at, first_byte, put_hash, same_hash, hash_less};
 ghost use Rattle.rules.specs.Records.{NONE, slots_of};
 
-// A number that a field has a cell of for each slot.
+// What a field has for each slot, or what is remembered of each.
 pub trait Cell: Copy {
     ghost EMPTY: { Self };
 
-    // What an empty record has there: zero, but for a word, which may be a reference or a sequence.
+    // What an empty record has there: zero, but for a word, which may be a reference or a sequence; where nothing is remembered yet, false.
     const EMPTY: Self;
 }
 
@@ -31,6 +31,12 @@ impl Cell for u64 {
     ghost EMPTY = { 0 };
 
     const EMPTY: u64 = 0;
+}
+
+impl Cell for bool {
+    ghost EMPTY = { false };
+
+    const EMPTY: bool = false;
 }
 
 // How many slots a field of this length has: no more than a reference can name.
@@ -64,8 +70,8 @@ pub fn put_cell<C: Cell>(cells: &mut [C], at: u32, value: C)
     }
 }
 
-// The lowest place from `from` on that holds the value, else the number of slots.
-pub fn next_at(words: &[u32], from: u32, value: u32) -> u32
+// The lowest place from `from` on that holds the value.
+pub fn next_at(words: &[u32], from: u32, value: u32) -> Option<u32>
     ensures { result ≡ next_at words.now from value }
 {
     let n = slots(words);
@@ -74,12 +80,7 @@ pub fn next_at(words: &[u32], from: u32, value: u32) -> u32
     while eight_differ(words, first, value) {
         first += 8;
     }
-    for k in first..n {
-        if cell_at(words, k) == value {
-            return k;
-        }
-    }
-    n
+    (first..n).find(|k| cell_at(words, *k) == value)
 }
 
 // Eight slots at once: none holds the value.

@@ -1,10 +1,20 @@
 // Tables emptied: each cell holds what an empty record has there.
 #![tactic(auto)]
 
-ghost use Rattle.std.specs.Prelude.{◌≡◌};
+ghost use Rattle.std.specs.Prelude.{◌≡◌, length, replicate};
 ghost use Rattle.rules.specs.Records.{blocks_emptied, heads_emptied, blocks_of, heads_of};
 
+use cells::Cell;
 use rules::{BlockSlot, Sequence};
+
+// Every cell becomes the value. By std's `fill`, which writes the last one by itself, fresh tables took some hundredths longer.
+fn fill<C: Cell>(cells: &mut [C], value: C)
+    ensures { cells.new ≡ replicate (length cells.old) value }
+{
+    for cell in cells.iter_mut() {
+        *cell = value;
+    }
+}
 
 // Every head becomes the empty record, whatever the lengths of the buffers.
 pub fn empty_heads(
@@ -18,12 +28,12 @@ pub fn empty_heads(
     ensures { heads_of tips.new tails.new missing.new requested.new arrivals.new connected.new
         ≡ heads_emptied (heads_of tips.old tails.old missing.old requested.old arrivals.old connected.old) }
 {
-    tips.fill(BlockSlot::NONE_REF.0);
-    tails.fill(BlockSlot::NONE_REF.0);
-    missing.fill(0);
-    requested.fill(0);
-    arrivals.fill(0);
-    connected.fill(0);
+    fill(tips, BlockSlot::NONE_REF.0);
+    fill(tails, BlockSlot::NONE_REF.0);
+    fill(missing, 0);
+    fill(requested, 0);
+    fill(arrivals, 0);
+    fill(connected, 0);
 }
 
 // Every block slot becomes the empty record, whatever the lengths of the buffers.
@@ -37,9 +47,9 @@ pub fn empty_blocks(
     ensures { blocks_of hashes.new parents.new sequences.new counts.new flags.new
         ≡ blocks_emptied (blocks_of hashes.old parents.old sequences.old counts.old flags.old) }
 {
-    hashes.fill(0);
-    parents.fill(BlockSlot::NONE_REF.0);
-    sequences.fill(Sequence::NONE_REF.0);
-    counts.fill(0);
-    flags.fill(0);
+    fill(hashes, 0);
+    fill(parents, BlockSlot::NONE_REF.0);
+    fill(sequences, Sequence::NONE_REF.0);
+    fill(counts, 0);
+    fill(flags, 0);
 }

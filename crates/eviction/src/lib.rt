@@ -95,7 +95,7 @@ fn evict_from(
         (blocks_of hashes.old parents.old sequences.old counts.old flags.old) tip.0 }
 {
     let mut current = tip;
-    for turn in 0..slots(sequences) {
+    for _ in 0..slots(sequences) {
         match visit(hashes, parents, sequences, counts, flags, current) {
             Some(parent) => current = parent,
             None => return,

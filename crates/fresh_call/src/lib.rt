@@ -3,11 +3,11 @@
 
 ghost use Rattle.std.specs.Prelude.{◌≡◌};
 ghost use Rattle.rules.specs.Records.{tables_of};
-ghost use Rattle.rules.specs.Answers.{outcome_said, recorded};
+ghost use Rattle.rules.specs.Answers.{outcome_said, record_after};
 ghost use Rattle.rules.specs.Calls.{state_of, fresh as fresh_rule, Sets};
 
 use empties::{empty_blocks, empty_heads};
-use rules::{BlockSlot, Refusal};
+use rules::{BlockSlot, Refusal, View};
 use shape::is_shaped;
 
 // Empties all slots and all heads and gives NONE_REF for the record; a refusal changes nothing.
@@ -25,17 +25,27 @@ pub fn fresh(
     connected: &mut [u8],
     active: BlockSlot,
 ) -> Result<BlockSlot, Refusal>
-    ensures { Sets (outcome_said result) (recorded result active.0)
+    ensures { Sets (outcome_said result) (record_after result active.0)
         (tables_of hashes.new parents.new sequences.new counts.new flags.new
         tips.new tails.new missing.new requested.new arrivals.new connected.new)
         (fresh_rule
         (state_of (tables_of hashes.old parents.old sequences.old counts.old flags.old
         tips.old tails.old missing.old requested.old arrivals.old connected.old) active.0)) }
 {
-    if !is_shaped(
-        hashes, parents, sequences, counts, flags, tips, tails, missing, requested, arrivals,
+    let view = View {
+        hashes,
+        parents,
+        sequences,
+        counts,
+        flags,
+        tips,
+        tails,
+        missing,
+        requested,
+        arrivals,
         connected,
-    ) {
+    };
+    if !is_shaped(&view) {
         return Err(Refusal::Shape);
     }
     empty_blocks(hashes, parents, sequences, counts, flags);

@@ -25,17 +25,16 @@ pub fn next_occupied_head(tips: &[u32], tails: &[u32], from: HeadSlot) -> Option
 }
 
 // The tip of a connected head; nothing for a stored or an empty one.
+#[tactic(auto, unfolding(rules::specs::Caches::connected_head_at))]
 pub fn connected_head_at(tips: &[u32], connected: &[u8], head: HeadSlot) -> Option<BlockSlot>
     ensures { slot_found result ≡ connected_head_at tips.now connected.now head.0 }
 {
-    if is_used(tips, head) && is_connected(connected, head) {
-        Some(BlockSlot(cell_at(tips, head.0)))
-    } else {
-        None
-    }
+    let tip = BlockSlot(cell_at(tips, head.0));
+    (is_used(tips, head) && is_connected(connected, head)).then_some(tip)
 }
 
 // The tail of a stored head; nothing for a connected or an empty one.
+#[tactic(auto, unfolding(rules::specs::Caches::stored_head_tail))]
 pub fn stored_head_tail(
     tips: &[u32],
     tails: &[u32],
@@ -44,14 +43,11 @@ pub fn stored_head_tail(
 ) -> Option<BlockSlot>
     ensures { slot_found result ≡ stored_head_tail tips.now tails.now connected.now head.0 }
 {
-    if is_stored(tips, connected, head) {
-        Some(BlockSlot(cell_at(tails, head.0)))
-    } else {
-        None
-    }
+    is_stored(tips, connected, head).then_some(BlockSlot(cell_at(tails, head.0)))
 }
 
 // Sets the missing hash of a head in use; an empty head keeps its own.
+#[tactic(auto, unfolding(rules::specs::Caches::set_missing))]
 pub fn set_missing_parent_hash(tips: &[u32], missing: &mut [u8], head: HeadSlot, hash: [u8; 32])
     ensures { missing.new ≡ set_missing tips.now missing.old head.0 hash }
 {

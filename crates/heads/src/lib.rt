@@ -54,12 +54,7 @@ pub fn first_empty(tips: &[u32]) -> Option<HeadSlot>
 fn head_with(tips: &[u32], tip: BlockSlot) -> Option<HeadSlot>
     ensures { head_found result ≡ lowest (λ (k : ℕ). eqb (tip_at tips.now k) tip.0) (slots_of tips.now) }
 {
-    let k = next_at(tips, 0, tip.0);
-    if k < slots(tips) {
-        Some(HeadSlot(k))
-    } else {
-        None
-    }
+    next_at(tips, 0, tip.0).map(HeadSlot)
 }
 
 // How many heads are in use.
@@ -93,17 +88,16 @@ pub fn put_head(
         ≡ put_head (heads_of
         tips.old tails.old missing.old requested.old arrivals.old connected.old) slot.0 head }
 {
-    let hash = head.missing;
     put_cell(tips, slot.0, head.tip.0);
     put_cell(tails, slot.0, head.tail.0);
-    put_hash(missing, slot.0, hash);
+    put_hash(missing, slot.0, head.missing);
     put_cell(requested, slot.0, head.requested);
     put_cell(arrivals, slot.0, head.arrival);
     put_cell(connected, slot.0, head.connected);
 }
 
 // Whether the first block has the lower hash; the first byte that differs decides.
-pub fn hash_before(hashes: &[u8], a: BlockSlot, b: BlockSlot) -> bool
+fn hash_before(hashes: &[u8], a: BlockSlot, b: BlockSlot) -> bool
     ensures { result ≡ hash_before hashes.now a.0 b.0 }
 {
     hash_less(hash_at(hashes, a.0), hash_at(hashes, b.0))

@@ -1,10 +1,9 @@
 // Which heads lost their tip, and which of them moves to the root's parent.
 #![tactic(auto)]
 
-ghost use Rattle.std.specs.Prelude.{◌≡◌, is_some};
+ghost use Rattle.std.specs.Prelude.{◌≡◌};
 ghost use Rattle.rules.specs.Common.{lowest};
 ghost use Rattle.rules.specs.Records.{slots_of};
-ghost use Rattle.rules.specs.Caches.{slot_of_head};
 ghost use Rattle.rules.specs.Removal.{listed, head_freed, takes_over, heir as heir_rule};
 ghost use Rattle.rules.specs.Answers.{head_found};
 
@@ -28,18 +27,12 @@ pub fn is_head_freed(tips: &[u32], deleted: &[u32], head: HeadSlot) -> bool
     is_used(tips, head) && is_listed(deleted, BlockSlot(cell_at(tips, head.0)))
 }
 
-fn is_head(tips: &[u32], slot: BlockSlot) -> bool
-    ensures { result ≡ is_some (slot_of_head tips.now slot.0) }
-{
-    slot_of_head(tips, slot).is_some()
-}
-
 #[tactic(auto, unfolding(rules::specs::Removal::takes_over))]
 fn takes_over(parents: &[u32], sequences: &[u32], tips: &[u32], reattach: BlockSlot) -> bool
     ensures { result ≡ takes_over parents.now sequences.now tips.now reattach.0 }
 {
     is_occupied(sequences, reattach)
-        && !is_head(tips, reattach)
+        && slot_of_head(tips, reattach).is_none()
         && is_childless(parents, sequences, reattach)
 }
 

@@ -28,6 +28,7 @@ pub fn misses(
         && same_hash_at(missing, head.0, hash)
 }
 
+#[tactic(auto, unfolding(rules::specs::Admission::late))]
 fn is_late(
     parents: &[u32],
     sequences: &[u32],
@@ -43,11 +44,9 @@ fn is_late(
     ensures { result ≡ late parents.now sequences.now tips.now tails.now
         missing.now connected.now block.0 sequence.0 hash head.0 }
 {
-    if !misses(tips, missing, connected, hash, head) {
-        return false;
-    }
     let tail = BlockSlot(cell_at(tails, head.0));
-    tail != block
+    misses(tips, missing, connected, hash, head)
+        && tail != block
         && is_occupied(sequences, tail)
         && BlockSlot(cell_at(parents, tail.0)) == BlockSlot::NONE_REF
         && comes_after(Sequence(cell_at(sequences, tail.0)), sequence)

@@ -25,22 +25,21 @@ fn knowing(
 ) -> HeadSlot
     ensures { result.0 ≡ knowing_rule tips.now tails.now connected.now tail.0 head.0 }
 {
-    let m = slots(tips);
-    if slots(tails) < m {
+    if slots(tails) != slots(tips) {
         return knowing_by_head(tips, tails, connected, tail, head);
     }
-    let mut k = next_at(tails, 0, tail.0);
+    let mut next = next_at(tails, 0, tail.0);
     // From one head with this tail to the next; a chain over all heads would not skip the others.
-    while k < m {
+    while let Some(k) = next {
         if is_stored(tips, connected, HeadSlot(k)) {
             return HeadSlot(k);
         }
-        k = next_at(tails, k + 1, tail.0);
+        next = next_at(tails, k + 1, tail.0);
     }
     head
 }
 
-// The same where a head may have no tail of its own.
+// The same where not every head has a tail of its own.
 fn knowing_by_head(
     tips: &[u32],
     tails: &[u32],

@@ -5,7 +5,7 @@ ghost use Rattle.std.specs.Prelude.{◌≡◌, length};
 ghost use Rattle.named_parents.specs.Named.{name_parent, named_parents, is_end as is_end_rule};
 
 use blocks::is_occupied;
-use cells::{cell_at, slots};
+use cells::{cell_at, put_cell, slots};
 use children::is_childless;
 use rules::BlockSlot;
 
@@ -14,10 +14,7 @@ fn name_parent(parents: &[u32], sequences: &[u32], named: &mut [bool], child: Bl
     ensures { named.new ≡ name_parent parents.now sequences.now child.0 named.old }
 {
     if is_occupied(sequences, child) {
-        let parent = cell_at(parents, child.0) as usize;
-        if parent < named.len() {
-            named[parent] = true;
-        }
+        put_cell(named, cell_at(parents, child.0), true);
     }
 }
 

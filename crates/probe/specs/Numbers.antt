@@ -6,10 +6,6 @@ use Rattle.rules.specs.BlockTable.{Insertion, into_slot, reserved, full}
 use Rattle.rules.specs.Caches.{HeadInUse}
 use Rattle.rules.specs.Timer.{Ask}
 
--- 1 is Connected, 2 Active, any other number Stored
-unfoldable pub status_from : (n : ℕ) → ℕ
-status_from n = if eqb n 1 then 1 else if eqb n 2 then 2 else 0
-
 -- the head slot times 2^32 and the claimed sequence; with NONE_REF for both, the highest 64-bit number, it is none
 abbrev pub ask_number : (ask : Option Ask) → ℕ
 ask_number None = NONE * 4294967296 + NONE

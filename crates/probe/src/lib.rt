@@ -4,9 +4,9 @@
 
 ghost use Rattle.std.specs.Prelude.{◌≡◌, not, eqb};
 ghost use Rattle.query_numbers.specs.Numbers.{or_none, yes};
-ghost use Rattle.probe.specs.Numbers.{insertion_number, status_from};
+ghost use Rattle.probe.specs.Numbers.{insertion_number};
 ghost use Rattle.rules.specs.Hashes.{hash_at, hash_less};
-ghost use Rattle.rules.specs.Records.{occupied, status_number, blocks_of, block_of};
+ghost use Rattle.rules.specs.Records.{occupied, status_from, blocks_of, block_of};
 ghost use Rattle.rules.specs.BlockTable.{adjusted_at, adjust_counts, set_occupied, set_on_active_chain, set_status, delete, insertion, insert, insert_at, resolve_parent, set_parent};
 ghost use Rattle.rules.specs.declared.Block.{Block};
 
@@ -21,17 +21,6 @@ pub mod restore;
 use crate::numbers::inserted;
 use query_numbers::{Numbered, number_or_none};
 use rules::{Block, BlockSlot, BlockStatus, Sequence};
-
-#[tactic(auto, unfolding(crate::specs::Numbers::status_from))]
-fn status_from(number: u32) -> BlockStatus
-    ensures { status_number result ≡ status_from number }
-{
-    match number {
-        1 => BlockStatus::Connected,
-        2 => BlockStatus::Active,
-        _ => BlockStatus::Stored,
-    }
-}
 
 // 1 if the first hash is the lower, else 0: the first byte that differs decides.
 #[unsafe(no_mangle)]
@@ -94,7 +83,7 @@ pub extern "C" fn probe_set_status(
     ensures { (result ≡ yes (occupied sequences.now slot))
         × (flags.new ≡ set_status sequences.now flags.old slot (status_from status)) }
 {
-    block_flags::set_status(sequences, flags, BlockSlot(slot), status_from(status)).number()
+    block_flags::set_status(sequences, flags, BlockSlot(slot), BlockStatus::of(status)).number()
 }
 
 // Writes the block into the slot, be it occupied or empty; beyond n nothing changes.

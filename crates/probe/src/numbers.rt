@@ -10,8 +10,8 @@ pub fn asked(r: Option<Recovery>) -> u64
     ensures { result ≡ ask_number (ask_chosen r) }
 {
     match r {
-        Some(recovery) => recovery.head.0 as u64 * 4294967296 + recovery.claimed.0 as u64,
-        None => 18446744073709551615,
+        Some(recovery) => u64::from(recovery.head.0) * 4294967296 + u64::from(recovery.claimed.0),
+        None => u64::MAX,
     }
 }
 
@@ -20,7 +20,7 @@ pub fn inserted(r: Result<BlockSlot, InsertError>) -> u64
     ensures { result ≡ insertion_number (insertion_made r) }
 {
     match r {
-        Ok(slot) => slot.0 as u64,
+        Ok(slot) => u64::from(slot.0),
         Err(InsertError::ReservedSequence) => 4294967296,
         Err(InsertError::Full) => 4294967297,
     }
@@ -31,7 +31,7 @@ pub fn any_slot(f: Option<BlockSlot>) -> u64
     ensures { result ≡ slot_number (slot_found f) }
 {
     match f {
-        Some(slot) => slot.0 as u64,
+        Some(slot) => u64::from(slot.0),
         None => 4294967296,
     }
 }

@@ -5,14 +5,14 @@ ghost use Rattle.std.specs.Prelude.{◌≡◌, true};
 ghost use Rattle.rules.specs.Records.{tables_of};
 ghost use Rattle.rules.specs.Promotion.{promoted as promoted_rule};
 ghost use Rattle.rules.specs.BlockTable.{set_on_active_chain, set_status};
-ghost use Rattle.rules.specs.Answers.{outcome_said, recorded};
+ghost use Rattle.rules.specs.Answers.{outcome_said, record_after};
 ghost use Rattle.rules.specs.Calls.{state_of, is_next, promote as promote_rule, Sets};
 
 use all_caches::recompute_all_caches;
 use block_flags::{set_on_active_chain, set_status};
 use blocks::is_occupied;
 use cells::cell_at;
-use rules::{BlockSlot, BlockStatus, Refusal};
+use rules::{BlockSlot, BlockStatus, Refusal, View};
 use shape::is_shaped;
 
 fn is_next(parents: &[u32], active: BlockSlot, slot: BlockSlot) -> bool
@@ -71,7 +71,7 @@ pub fn promote(
     active: BlockSlot,
     slot: BlockSlot,
 ) -> Result<BlockSlot, Refusal>
-    ensures { Sets (outcome_said result) (recorded result active.0)
+    ensures { Sets (outcome_said result) (record_after result active.0)
         (tables_of hashes.now parents.now sequences.now counts.now flags.new
         tips.now tails.new missing.new requested.new arrivals.now connected.new)
         (promote_rule
@@ -79,10 +79,20 @@ pub fn promote(
         tips.now tails.old missing.old requested.old arrivals.now connected.old) active.0)
         slot.0) }
 {
-    if !is_shaped(
-        hashes, parents, sequences, counts, flags, tips, tails, missing, requested, arrivals,
+    let view = View {
+        hashes,
+        parents,
+        sequences,
+        counts,
+        flags,
+        tips,
+        tails,
+        missing,
+        requested,
+        arrivals,
         connected,
-    ) {
+    };
+    if !is_shaped(&view) {
         return Err(Refusal::Shape);
     }
     if !is_occupied(sequences, slot) {

@@ -9,7 +9,7 @@ ghost use Rattle.query_numbers.specs.Numbers.{or_none, yes, anchor_number};
 use rules::{BlockSlot, BlockStatus, HeadSlot, Located, Refusal};
 
 // What stands for an answer that is not there.
-const NOTHING: u32 = 4294967295;
+const NOTHING: u32 = u32::MAX;
 
 // An answer that a number of 32 bits stands for.
 pub trait Numbered: Copy {
@@ -60,11 +60,7 @@ impl Numbered for BlockStatus {
     ghost number = { status_number };
 
     fn number(self) -> u32 {
-        match self {
-            BlockStatus::Stored => 0,
-            BlockStatus::Connected => 1,
-            BlockStatus::Active => 2,
-        }
+        u32::from(self as u8)
     }
 }
 
@@ -107,7 +103,7 @@ pub fn anchored(located: Located) -> u64
     ensures { result ≡ anchor_number (anchor_located located) }
 {
     match located {
-        Located::Connection(at) => 4294967296 + at.0 as u64,
-        Located::Tail(at) => at.0 as u64,
+        Located::Connection(at) => 4294967296 + u64::from(at.0),
+        Located::Tail(at) => u64::from(at.0),
     }
 }

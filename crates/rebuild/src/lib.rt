@@ -1,7 +1,7 @@
 // Heads made anew from the blocks: port of `rebuild_from_blocks` of src/chain_heads.rs.
 #![tactic(auto)]
 
-ghost use Rattle.std.specs.Prelude.{◌≡◌, true, false, not, length, if◌then◌else◌, is_some};
+ghost use Rattle.std.specs.Prelude.{◌≡◌, length};
 ghost use Rattle.rules.specs.Records.{tables_of};
 ghost use Rattle.rules.specs.Admission.{first_empty};
 ghost use Rattle.rules.specs.Rebuild.{rebuild_at, rebuild_heads, rebuilt};

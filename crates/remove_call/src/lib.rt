@@ -11,7 +11,7 @@ use blocks::is_occupied;
 use cells::cell_at;
 use freeing::free_all;
 use removal::on_blocks_deleted;
-use rules::{BlockSlot, Refusal};
+use rules::{BlockSlot, Refusal, View};
 use shape::is_shaped;
 use subtree::{any_active, mark_subtree};
 
@@ -69,10 +69,20 @@ pub fn remove(
         tips.old tails.old missing.old requested.old arrivals.old connected.old) active_head)
         root.0) }
 {
-    if !is_shaped(
-        hashes, parents, sequences, counts, flags, tips, tails, missing, requested, arrivals,
+    let view = View {
+        hashes,
+        parents,
+        sequences,
+        counts,
+        flags,
+        tips,
+        tails,
+        missing,
+        requested,
+        arrivals,
         connected,
-    ) {
+    };
+    if !is_shaped(&view) {
         return Err(Refusal::Shape);
     }
     if !is_occupied(sequences, root) {

@@ -9,7 +9,7 @@ ghost use Rattle.rules.specs.Calls.{state_of, restart as restart_rule, Does};
 use empties::empty_heads;
 use rebuild::rebuild_from_blocks;
 use recount::recompute_head_ref_counts;
-use rules::{BlockSlot, Refusal};
+use rules::{BlockSlot, Refusal, View};
 use shape::is_shaped;
 
 // Empties the heads, sets the counts, then rebuilds the heads with `clock` as their arrival time; a refusal changes nothing.
@@ -36,10 +36,20 @@ pub fn restart(
         tips.old tails.old missing.old requested.old arrivals.old connected.old) active.0)
         clock) }
 {
-    if !is_shaped(
-        hashes, parents, sequences, counts, flags, tips, tails, missing, requested, arrivals,
+    let view = View {
+        hashes,
+        parents,
+        sequences,
+        counts,
+        flags,
+        tips,
+        tails,
+        missing,
+        requested,
+        arrivals,
         connected,
-    ) {
+    };
+    if !is_shaped(&view) {
         return Err(Refusal::Shape);
     }
     empty_heads(tips, tails, missing, requested, arrivals, connected);

@@ -28,7 +28,7 @@ use Rattle.rules.specs.Common.{lowest, count_below, all_below}
 use Rattle.rules.proofs.Splits.{split, less?, option?}
 
 -- a range one longer has one number more at its end
-last : (a n k : ℕ) → a + n ≡ k → range_with_len a (suc n) ≡ range_with_len a n ++ k ∷ []
+pub last : (a n k : ℕ) → a + n ≡ k → range_with_len a (suc n) ≡ range_with_len a n ++ k ∷ []
 last a zero k e = let f : a ≡ k = omega arith in ap (λ j. j ∷ []) f
 last a (suc n) k e = ap (λ l. a ∷ l) (last (a + 1) n k (omega arith))
 
@@ -83,6 +83,10 @@ lowest-from test from (suc n) =
     (λ l. let a : suc n - from ≡ suc (n - from) = omega arith in
     rw (le-leb from n l, a) (sym (find-last test from (n - from) n (omega arith)))))
 
+map-same : (r : Option ℕ) → r ≡ option_map (λ k. k) r
+map-same None = refl
+map-same (Some k) = refl
+
 -- ---- the chains: n is where the code's range ends, k the same as the rule says it
 
 module _ {F : Type 0} where
@@ -106,6 +110,13 @@ module _ {F : Type 0} where
 
       pub find-from : option_map v r ≡ lowest (λ j. leb a j && test j) k
       find-from = found ∙ sym (lowest-from test a k)
+
+    -- `(a..n).find(..)`
+    pub find-on : {f : F} {a : ℕ} {g : Mut F (Bor ℕ × Unit {0}) Bool} (u : Range ℕ) (r : Option ℕ) → n ≡ k
+        → FindsItem nat_range_steps g (record { start = a; end = n }) f r u → Says g f test → r ≡ lowest (λ j. leb a j && test j) k
+    find-on {f = f} {a} u r ends ran says =
+        map-same r ∙ find_from_yields_List test u f r ran (YieldsList-from_range a n (k - a) refl (omega arith)) says
+        ∙ sym (lowest-from test a k)
 
     -- `(0..n).any(..)`
     pub any-lowest : {f : F} {g : Mut F (ℕ × Unit {0}) Bool} (u : Range ℕ) (r : Bool) → n ≡ k

@@ -119,11 +119,6 @@ module _ (test : ℕ → Bool) where
   unfolding count_below
   count_none = refl
 
-  pub count-few : (i : ℕ) → count_below test i ≤ i
-  unfolding count_below
-  count-few zero = omega arith
-  count-few (suc i) = split (test i) (λ e. rw e (omega (arith, count-few i))) (λ e. rw e (omega (arith, count-few i)))
-
 -- ---- one after the other
 
 pub in-order-none {ℓ} : {A : Type ℓ} (act : ℕ → A → A) (a : A) → in_order act 0 a ≡ a

@@ -87,9 +87,9 @@ abbrev pub outcome_said : {Given : Type 0} (answer : Result Given Refusal) → A
 outcome_said answer = call_said (λ _. done) answer
 
 -- what the record holds after fresh or promote: the slot that is given for it, or what it held
-abbrev pub recorded : (answer : Result block_slot.BlockSlot Refusal) (active_head : BlockSlot) → BlockSlot
-recorded (Ok new) active_head = new.0
-recorded (Err why) active_head = active_head
+abbrev pub record_after : (answer : Result block_slot.BlockSlot Refusal) (active_head : BlockSlot) → BlockSlot
+record_after (Ok new) active_head = new.0
+record_after (Err why) active_head = active_head
 
 abbrev pub admitted_said : (answer : Result block_slot.BlockSlot Refusal) → Answer
 admitted_said answer = call_said (λ new. slot new.0) answer
@@ -104,16 +104,16 @@ hanging_said answer = call_said (λ hanging. hangs hanging.blocks hanging.highes
 abbrev pub screened_said : (answer : Result ℕ Refusal) (rows : List HeadRow) → Answer
 screened_said answer rows = call_said (λ _. shown rows) answer
 
-abbrev pub asked : (wanted : Option Request) → Answer
-asked (Some wanted) = request wanted.head.0 wanted.claimed.0 wanted.missing
-asked None = none_due
+abbrev pub request_said : (wanted : Option Request) → Answer
+request_said (Some wanted) = request wanted.head.0 wanted.claimed.0 wanted.missing
+request_said None = none_due
 
 abbrev pub timer_said : (answer : Result (Option Request) Refusal) → Answer
-timer_said answer = call_said asked answer
+timer_said answer = call_said request_said answer
 
-abbrev pub waited : (time : Option Time) → Answer
-waited (Some time) = due_at time
-waited None = never_due
+abbrev pub due_said : (time : Option Time) → Answer
+due_said (Some time) = due_at time
+due_said None = never_due
 
 abbrev pub deadline_said : (answer : Result (Option Time) Refusal) → Answer
-deadline_said answer = call_said waited answer
+deadline_said answer = call_said due_said answer

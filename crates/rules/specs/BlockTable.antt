@@ -100,7 +100,7 @@ adjust_counts sequences counts i change =
     if occupied sequences i then set counts i (adjusted (count_at counts i) change) else counts
 
 -- an empty slot keeps its fields
-unfoldable pub set_occupied : (sequences field : List ℕ) (i : BlockSlot) (value : ℕ) → List ℕ
+unfoldable pub set_occupied : {Cell : Type 0} (sequences : List ℕ) (field : List Cell) (i : BlockSlot) (value : Cell) → List Cell
 set_occupied sequences field i value = if occupied sequences i then set field i value else field
 
 unfoldable pub set_on_active_chain : (sequences flags : List ℕ) (i : BlockSlot) (on : Bool) → List ℕ

@@ -7,6 +7,7 @@ use Rattle.rules.specs.Common.{lowest, count_below}
 use Rattle.rules.specs.Hashes.{hash_length, zero_hash, hash_at, put_hash}
 use Rattle.rules.specs.declared.Block.{Block}
 use Rattle.rules.specs.declared.Head.{Head}
+use Rattle.rules.specs.declared.View.{View}
 use Rattle.rules.specs.declared.BlockStatus.{BlockStatus}
 use Rattle.rules.specs.declared.BlockStatus.TheVariants.{Stored, Connected, Active}
 
@@ -43,6 +44,12 @@ heads_of t l m r a c = record { tips = t; tails = l; missing = m; requested = r;
 
 abbrev pub tables_of : (hashes parents sequences counts flags tips tails missing requested arrivals connected : List ℕ) → Tables
 tables_of h p s c f t l m r a k = record { blocks = blocks_of h p s c f; heads = heads_of t l m r a k }
+
+-- what is lent to be read
+abbrev pub viewed : (view : View) → Tables
+viewed v =
+    tables_of v.hashes.now v.parents.now v.sequences.now v.counts.now v.flags.now
+    v.tips.now v.tails.now v.missing.now v.requested.now v.arrivals.now v.connected.now
 
 -- what the caches are kept in; tips and arrival times are not among them
 pub record Caches : Type 0 where
@@ -160,6 +167,10 @@ abbrev pub status_number : (status : BlockStatus) → ℕ
 status_number Stored = 0
 status_number Connected = 1
 status_number Active = 2
+
+-- 1 is Connected, 2 Active, any other number Stored
+unfoldable pub status_from : (number : ℕ) → ℕ
+status_from n = if eqb n 1 then 1 else if eqb n 2 then 2 else 0
 
 -- 3 reads as Stored
 unfoldable pub status_of : (flags : ℕ) → ℕ

@@ -1,10 +1,10 @@
 // The types that every crate shares: slots and sequences, each its own type, the two records, and what is answered. The tables are lent as
-// slices, a field each, and not as a struct of them: C lends some to be read and others to be written, and through a struct of lent slices
-// no proof splits the two.
+// slices, a field each, where some are written: C lends some to be read and others to be written, and through a struct of lent slices no
+// proof splits the two. Where all are read they are a View.
 #![tactic(auto)]
 
 ghost use Rattle.std.specs.Prelude.{◌≡◌};
-ghost use Rattle.rules.specs.Records.{empty_block, empty_head};
+ghost use Rattle.rules.specs.Records.{empty_block, empty_head, status_number, status_from};
 
 // A place in the block table; laid out for C, as the record of the active head and those of the head screen hold one.
 #[repr(C)]
@@ -12,7 +12,7 @@ ghost use Rattle.rules.specs.Records.{empty_block, empty_head};
 pub struct BlockSlot(pub u32);
 
 // A place in the head table.
-#[derive(Clone, Copy, PartialEq, Eq)]
+#[derive(Clone, Copy, PartialEq, Eq, PartialOrd, Ord)]
 pub struct HeadSlot(pub u32);
 
 // A block's sequence number; laid out for C, as a record of the head screen holds one.
@@ -27,15 +27,15 @@ pub struct HeadKind(pub u32);
 
 // No block, no head, and the sequence of an empty slot: one number, and a constant of each type.
 impl BlockSlot {
-    pub const NONE_REF: BlockSlot = BlockSlot(4294967295);
+    pub const NONE_REF: BlockSlot = BlockSlot(u32::MAX);
 }
 
 impl HeadSlot {
-    pub const NONE_REF: HeadSlot = HeadSlot(4294967295);
+    pub const NONE_REF: HeadSlot = HeadSlot(u32::MAX);
 }
 
 impl Sequence {
-    pub const NONE_REF: Sequence = Sequence(4294967295);
+    pub const NONE_REF: Sequence = Sequence(u32::MAX);
 }
 
 impl HeadKind {
@@ -96,12 +96,42 @@ impl Head {
     }
 }
 
+// Both tables, lent to be read.
+#[derive(Clone, Copy)]
+pub struct View<'a> {
+    pub hashes: &'a [u8],
+    pub parents: &'a [u32],
+    pub sequences: &'a [u32],
+    pub counts: &'a [u8],
+    pub flags: &'a [u8],
+    pub tips: &'a [u32],
+    pub tails: &'a [u32],
+    pub missing: &'a [u8],
+    pub requested: &'a [u64],
+    pub arrivals: &'a [u64],
+    pub connected: &'a [u8],
+}
+
 // What bits 1 and 2 of a block's flags say; 3 reads as Stored.
 #[derive(Clone, Copy)]
 pub enum BlockStatus {
     Stored = 0,
     Connected = 1,
     Active = 2,
+}
+
+impl BlockStatus {
+    // Of a number; one that is no status reads as Stored.
+    #[tactic(auto, unfolding(crate::specs::Records::status_from))]
+    pub fn of(number: u32) -> BlockStatus
+        ensures { status_number result ≡ status_from number }
+    {
+        match number {
+            1 => BlockStatus::Connected,
+            2 => BlockStatus::Active,
+            _ => BlockStatus::Stored,
+        }
+    }
 }
 
 // A head in use with its tip and its anchor.

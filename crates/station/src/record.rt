@@ -2,10 +2,10 @@
 ghost use Rattle.std.specs.Prelude.{◌≡◌};
 ghost use Rattle.rules.specs.Records.{tables_of};
 ghost use Rattle.rules.specs.Calls.{state_of, promote as promote_rule, fresh as fresh_rule};
-ghost use Rattle.rules.specs.Answers.{outcome_said, recorded};
+ghost use Rattle.rules.specs.Answers.{outcome_said, record_after};
 ghost use Rattle.call_numbers.specs.Numbers.{answer_number, GivesAndSets};
 
-use call_numbers::refusal;
+use call_numbers::call_number;
 use fresh_call::fresh;
 use promote_call::promote;
 use rules::{ActiveHead, BlockSlot, Refusal};
@@ -13,15 +13,12 @@ use rules::{ActiveHead, BlockSlot, Refusal};
 // Keeps what a call gives for the record; 0 is done, and after a refusal, which stands in the upper half, the record holds what it held.
 fn record(answer: Result<BlockSlot, Refusal>, held: &mut ActiveHead) -> u64
     ensures number { result ≡ answer_number (outcome_said answer) }
-    ensures record { held.new.slot.0 ≡ recorded answer held.old.slot.0 }
+    ensures record { held.new.slot.0 ≡ record_after answer held.old.slot.0 }
 {
-    match answer {
-        Ok(active) => {
-            held.slot = active;
-            0
-        }
-        Err(why) => refusal(why),
+    if let Ok(active) = answer {
+        held.slot = active;
     }
+    call_number(answer.map(|_| ()))
 }
 
 // Puts the block on the active chain and names it in the record; 0 is done, and a refusal in the upper half changes nothing.

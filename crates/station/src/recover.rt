@@ -5,6 +5,7 @@ ghost use Rattle.rules.specs.Calls.{state_of, timer as timer_rule, earliest_dead
 ghost use Rattle.call_numbers.specs.Numbers.{span_from, Asks, Waits};
 
 use call_numbers::{deadline_number, span_from, timed_number};
+use rules::View;
 use timer_call::{earliest_deadline, timer};
 
 // The head to ask for, whose request time becomes now; claimed sequence and missing hash go into the two lists. NONE_REF is none due, and
@@ -81,21 +82,18 @@ pub extern "C" fn station_earliest_deadline(
         tips.now tails.now missing.now requested.now arrivals.now connected.now) active_head)
         (span_from given span)) }
 {
-    deadline_number(
-        earliest_deadline(
-            hashes,
-            parents,
-            sequences,
-            counts,
-            flags,
-            tips,
-            tails,
-            missing,
-            requested,
-            arrivals,
-            connected,
-            span_from(given, span),
-        ),
-        time,
-    )
+    let view = View {
+        hashes,
+        parents,
+        sequences,
+        counts,
+        flags,
+        tips,
+        tails,
+        missing,
+        requested,
+        arrivals,
+        connected,
+    };
+    deadline_number(earliest_deadline(&view, span_from(given, span)), time)
 }

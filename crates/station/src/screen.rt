@@ -7,7 +7,7 @@ ghost use Rattle.call_numbers.specs.Numbers.{Shows};
 ghost use Rattle.screen_call.specs.Keys.{rows_in};
 
 use call_numbers::call_number;
-use rules::HeadRow;
+use rules::{HeadRow, View};
 use screen_call::{row_at, screen};
 
 // The records of so many keys go into the first places of the list.
@@ -57,8 +57,7 @@ pub extern "C" fn station_screen(
         tips.now tails.now missing.now requested.now arrivals.now connected.now) active_head)
         (length rows.old)) }
 {
-    let mut keys = [0u64; 64];
-    let screened = screen(
+    let view = View {
         hashes,
         parents,
         sequences,
@@ -70,9 +69,9 @@ pub extern "C" fn station_screen(
         requested,
         arrivals,
         connected,
-        rows.len(),
-        &mut keys,
-    );
+    };
+    let mut keys = [0u64; 64];
+    let screened = screen(&view, rows.len(), &mut keys);
     let many = screened.unwrap_or(0);
     fill_rows(sequences, tips, tails, connected, &keys, many, rows);
     call_number(screened)

@@ -7,7 +7,7 @@ ghost use Rattle.call_numbers.specs.Numbers.{Gives, Hangs};
 use admit_call::admit;
 use call_numbers::{call_number, hanging_number};
 use remove_call::remove;
-use rules::{BlockSlot, Sequence};
+use rules::{BlockSlot, Sequence, View};
 use under_call::under;
 
 // Inserts the block and answers with its slot; a refusal in the upper half changes nothing. `active` is the record's slot.
@@ -124,21 +124,18 @@ pub extern "C" fn station_under(
         tips.now tails.now missing.now requested.now arrivals.now connected.now) active_head)
         slot) }
 {
-    hanging_number(
-        under(
-            hashes,
-            parents,
-            sequences,
-            counts,
-            flags,
-            tips,
-            tails,
-            missing,
-            requested,
-            arrivals,
-            connected,
-            BlockSlot(slot),
-        ),
-        highest,
-    )
+    let view = View {
+        hashes,
+        parents,
+        sequences,
+        counts,
+        flags,
+        tips,
+        tails,
+        missing,
+        requested,
+        arrivals,
+        connected,
+    };
+    hanging_number(under(&view, BlockSlot(slot)), highest)
 }

@@ -1,5 +1,5 @@
 -- What each step of a walk keeps of what is remembered.
-use Rattle.std.specs.Prelude.{Option, None, Some}
+use Rattle.std.specs.Prelude.{None, Some}
 use Rattle.std.proofs.lemmas.Bool.Decides.{nat_tests}
 use Rattle.std.proofs.lemmas.Grind.{common_steps}
 use mathlib.Core.Path.{◌≡◌}
@@ -14,7 +14,9 @@ use Rattle.rules.specs.BlockTable.{reaches}
 use Rattle.rules.proofs.Splits.{less?}
 use Rattle.rules.proofs.Cells.{get_d_any}
 use Rattle.rules.proofs.Walks.{reaches-root, reaches-empty, reaches_end, reaches-up}
-use Rattle.subtree.specs.Known.{above, told, at_once, Right}
+use Rattle.subtree.specs.Known.{is_known, tells, above, told, at_once, Right}
+use Rattle.subtree.specs.declared.Mark.{Mark}
+use Rattle.subtree.specs.declared.Mark.TheVariants.{Unknown}
 use Rattle.subtree.proofs.Steady.{told-above}
 
 pub small-parents : (parents : List ℕ) → ((i : ℕ) → get_or parents i 0 ≤ NONE) → (i : ℕ) → parent_at parents i ≤ NONE
@@ -22,7 +24,7 @@ small-parents parents fits i = less? i (length parents)
     (λ h. rw (get_d_any parents i NONE 0 h) (fits i))
     (λ h. rw (get_or-eq_default parents NONE h) (omega arith))
 
-module _ (parents sequences : List ℕ) (root : ℕ) (known : List (Option Bool)) where
+module _ (parents sequences : List ℕ) (root : ℕ) (known : List Mark) where
   abbrev walk : ℕ → ℕ → Bool
   walk tries i = reaches parents sequences root tries i
 
@@ -44,7 +46,7 @@ module _ (parents sequences : List ℕ) (root : ℕ) (known : List (Option Bool)
 
     -- the last slot of a walk tells what the rule gives
     pub end-told : (i : ℕ) → 0 < slots_of sequences → above parents sequences root known i ≡ None
-        → walk (slots_of sequences) i ≡ told root known i
+        → walk (slots_of sequences) i ≡ tells (told root known i)
     unfolding above told
     end-told i l e =
         let n = slots_of sequences in
@@ -54,27 +56,27 @@ module _ (parents sequences : List ℕ) (root : ℕ) (known : List (Option Bool)
         grind (arith, nat_tests, r.right i)
 
     -- so does what is told without a walk
-    pub at-once-told : (i : ℕ) (verdict : Bool) → i < NONE → 0 < slots_of sequences → occupied sequences i ≡ true
-        → at_once parents root known i ≡ Some verdict → walk (slots_of sequences) i ≡ verdict
+    pub at-once-told : (i : ℕ) (mark : Mark) → i < NONE → 0 < slots_of sequences → occupied sequences i ≡ true
+        → at_once parents root known i ≡ mark → is_known mark ≡ true → walk (slots_of sequences) i ≡ tells mark
     unfolding at_once
-    at-once-told i verdict l h o e =
+    at-once-told i mark l h o e k =
         let n = slots_of sequences in
         let here = reaches-root parents sequences root n i h in
         let end = reaches_end parents sequences root n i h in
         let up = told-above parents sequences root small r.there i l in
-        grind (arith, nat_tests, r.right i verdict, r.right (parent_at parents i) verdict)
+        grind (arith, nat_tests, r.right i, r.right (parent_at parents i))
 
   -- a verdict that is what the rule gives may be written
-  pub remembered : (i : ℕ) (verdict : Bool) → Right parents sequences root known → walk (slots_of sequences) i ≡ verdict
-      → Right parents sequences root (set known i (Some verdict))
-  remembered i verdict r e = record {
+  pub remembered : (i : ℕ) (mark : Mark) → Right parents sequences root known → walk (slots_of sequences) i ≡ tells mark
+      → Right parents sequences root (set known i mark)
+  remembered i mark r e = record {
     there = r.there;
-    right = λ j other h. grind (arith, common_steps, r.right j other);
+    right = λ j h. grind (arith, common_steps, r.right j);
   }
 
 pub nothing_known : (parents sequences : List ℕ) (root size : ℕ) → occupied sequences root ≡ true
-    → Right parents sequences root (replicate size None)
+    → Right parents sequences root (replicate size Unknown)
 nothing_known parents sequences root size o = record {
   there = o;
-  right = λ i verdict h. grind (arith, common_steps);
+  right = λ i h. grind (arith, common_steps);
 }

@@ -2,32 +2,47 @@
 // Whether a listed block is active.
 #![tactic(auto)]
 
-ghost use Rattle.std.specs.Prelude.{◌≡◌, ◌<◌, length, get_or, set, Some, None};
+ghost use Rattle.std.specs.Prelude.{◌≡◌, ◌<◌, length};
 ghost use Rattle.std.proofs.lemmas.List.Edits.{sets};
 ghost use Rattle.rules.specs.Records.{slots_of};
 ghost use Rattle.rules.specs.BlockTable.{reaches, in_subtree, mark_subtree};
 ghost use Rattle.rules.specs.Answers.{slot_found};
 ghost use Rattle.subtree.specs.Active.{any_active};
-ghost use Rattle.subtree.specs.Known.{above as above_rule, told, at_once, Right};
+ghost use Rattle.subtree.specs.Known.{is_known, tells, above as above_rule, told, at_once, Right};
+ghost use Rattle.subtree.specs.declared.Mark.TheVariants.{Unknown};
 
 use blocks::{is_occupied, is_on_active_chain};
-use cells::{cell_at, put_cell, slots};
+use cells::{Cell, cell_at, put_cell, slots};
 use rules::BlockSlot;
 
-// Whether the slot's walk reaches the root, where that is remembered.
-fn known_at(known: &[Option<bool>], slot: BlockSlot) -> Option<bool>
-    ensures { result ≡ get_or known.now slot.0 None }
-{
-    known.get(slot.0 as usize).copied().flatten()
+// What is remembered of a slot: nothing yet, that its walk misses the root, or that it reaches it. By an Option<bool>, which is two bytes,
+// the marking of a chain took a fifth longer.
+#[derive(Clone, Copy, PartialEq, Eq)]
+enum Mark {
+    Unknown,
+    Misses,
+    Reaches,
 }
 
-fn keep_known(known: &mut [Option<bool>], slot: BlockSlot, reaches: bool)
-    ensures { known.new ≡ set known.old slot.0 (Some reaches) }
-{
-    let at = slot.0 as usize;
-    if at < known.len() {
-        known[at] = Some(reaches);
+impl Mark {
+    fn is_known(self) -> bool
+        ensures { result ≡ is_known self }
+    {
+        self != Mark::Unknown
     }
+
+    // What it tells where it is known.
+    fn reaches(self) -> bool
+        ensures { result ≡ tells self }
+    {
+        self == Mark::Reaches
+    }
+}
+
+impl Cell for Mark {
+    ghost EMPTY = { Unknown };
+
+    const EMPTY: Mark = Mark::Unknown;
 }
 
 // Where the walk goes from here, if it goes on.
@@ -36,12 +51,12 @@ fn above(
     parents: &[u32],
     sequences: &[u32],
     root: BlockSlot,
-    known: &[Option<bool>],
+    known: &[Mark],
     slot: BlockSlot,
 ) -> Option<BlockSlot>
     ensures { slot_found result ≡ above_rule parents.now sequences.now root.0 known.now slot.0 }
 {
-    if slot == root || known_at(known, slot).is_some() || !is_occupied(sequences, slot) {
+    if slot == root || cell_at(known, slot.0).is_known() || !is_occupied(sequences, slot) {
         return None;
     }
     let parent = BlockSlot(cell_at(parents, slot.0));
@@ -54,46 +69,45 @@ fn above(
 
 // What the slot tells where a walk ends.
 #[tactic(auto, unfolding(crate::specs::Known::told))]
-fn told_at(root: BlockSlot, known: &[Option<bool>], slot: BlockSlot) -> bool
+fn told_at(root: BlockSlot, known: &[Mark], slot: BlockSlot) -> Mark
     ensures { result ≡ told root.0 known.now slot.0 }
 {
-    slot == root || known_at(known, slot).unwrap_or(false)
+    if slot == root {
+        return Mark::Reaches;
+    }
+    let own = cell_at(known, slot.0);
+    if own.is_known() { own } else { Mark::Misses }
 }
 
-// What is told of an occupied slot without a walk, where it or its parent is known.
+// What is told of an occupied slot without a walk; nothing where neither it nor its parent is known.
 #[tactic(auto, unfolding(crate::specs::Known::at_once))]
-fn told_at_once(
-    parents: &[u32],
-    root: BlockSlot,
-    known: &[Option<bool>],
-    slot: BlockSlot,
-) -> Option<bool>
+fn told_at_once(parents: &[u32], root: BlockSlot, known: &[Mark], slot: BlockSlot) -> Mark
     ensures { result ≡ at_once parents.now root.0 known.now slot.0 }
 {
-    let own = known_at(known, slot);
-    if own.is_some() {
+    let own = cell_at(known, slot.0);
+    if own.is_known() {
         return own;
     }
     if slot == root {
-        return Some(true);
+        return Mark::Reaches;
     }
     let parent = BlockSlot(cell_at(parents, slot.0));
     if parent == BlockSlot::NONE_REF {
-        return Some(false);
+        return Mark::Misses;
     }
-    known_at(known, parent)
+    cell_at(known, parent.0)
 }
 
 fn verdict(
     parents: &[u32],
     sequences: &[u32],
     root: BlockSlot,
-    known: &[Option<bool>],
+    known: &[Mark],
     start: BlockSlot,
-) -> bool
+) -> Mark
     ensures { Right parents.now sequences.now root.0 known.now
         → start.0 < slots_of sequences.now
-        → reaches parents.now sequences.now root.0 (slots_of sequences.now) start.0 ≡ result }
+        → reaches parents.now sequences.now root.0 (slots_of sequences.now) start.0 ≡ tells result }
 {
     let mut current = start;
     for _ in 0..slots(sequences) {
@@ -102,7 +116,7 @@ fn verdict(
             None => return told_at(root, known, current),
         }
     }
-    false
+    Mark::Misses
 }
 
 // Every slot of the walk gets the verdict.
@@ -110,24 +124,24 @@ fn remember(
     parents: &[u32],
     sequences: &[u32],
     root: BlockSlot,
-    known: &mut [Option<bool>],
+    known: &mut [Mark],
     start: BlockSlot,
-    verdict: bool,
+    verdict: Mark,
 )
     ensures { Right parents.now sequences.now root.0 known.old
         → start.0 < slots_of sequences.now
-        → reaches parents.now sequences.now root.0 (slots_of sequences.now) start.0 ≡ verdict
+        → reaches parents.now sequences.now root.0 (slots_of sequences.now) start.0 ≡ tells verdict
         → Right parents.now sequences.now root.0 known.new }
 {
     let mut current = start;
     for _ in 0..slots(sequences) {
-        let next = above(parents, sequences, root, known, current);
-        keep_known(known, current, verdict);
-        match next {
-            Some(next) => current = next,
-            None => return,
-        }
+        let Some(next) = above(parents, sequences, root, known, current) else {
+            break;
+        };
+        put_cell(known, current.0, verdict);
+        current = next;
     }
+    put_cell(known, current.0, verdict);
 }
 
 #[tactic(auto, unfolding(rules::specs::BlockTable::in_subtree))]
@@ -135,7 +149,7 @@ fn is_under(
     parents: &[u32],
     sequences: &[u32],
     root: BlockSlot,
-    known: &mut [Option<bool>],
+    known: &mut [Mark],
     slot: BlockSlot,
 ) -> bool
     ensures { Right parents.now sequences.now root.0 known.old
@@ -146,20 +160,21 @@ fn is_under(
     if !is_occupied(sequences, slot) {
         return false;
     }
-    if let Some(told) = told_at_once(parents, root, known, slot) {
-        keep_known(known, slot, told);
-        return told;
+    let told = told_at_once(parents, root, known, slot);
+    if told.is_known() {
+        put_cell(known, slot.0, told);
+        return told.reaches();
     }
-    let reaches = verdict(parents, sequences, root, known, slot);
-    remember(parents, sequences, root, known, slot, reaches);
-    reaches
+    let mark = verdict(parents, sequences, root, known, slot);
+    remember(parents, sequences, root, known, slot, mark);
+    mark.reaches()
 }
 
 fn mark_known(
     parents: &[u32],
     sequences: &[u32],
     root: BlockSlot,
-    known: &mut [Option<bool>],
+    known: &mut [Mark],
     out: &mut [u32],
 ) -> u32
     ensures { Right parents.now sequences.now root.0 known.old
@@ -186,7 +201,7 @@ pub fn mark_subtree(parents: &[u32], sequences: &[u32], root: BlockSlot, out: &m
     if !is_occupied(sequences, root) {
         return 0;
     }
-    let mut known = [None; 1024];
+    let mut known = [Mark::Unknown; 1024];
     mark_known(parents, sequences, root, &mut known, out)
 }
 

@@ -1,8 +1,10 @@
 // Parent recovery: due times, the choice of a head to ask for, and the deadline. Port of that part of src/chain_heads.rs.
 #![tactic(auto)]
 
-ghost use Rattle.std.specs.Prelude.{◌≡◌};
-ghost use Rattle.rules.specs.Timer.{due, may_ask, asks_before, chosen as chosen_rule, claimed as claimed_rule, ask_at, recovery, mark_requested, deadline};
+ghost use Rattle.std.specs.Prelude.{◌≡◌, ◌&&◌, ◌||◌, eqb, ltb};
+ghost use Rattle.rules.specs.Records.{tip_at};
+ghost use Rattle.rules.specs.Eviction.{block_before};
+ghost use Rattle.rules.specs.Timer.{due, may_ask, chosen as chosen_rule, claimed as claimed_rule, ask_at, recovery, mark_requested, deadline};
 ghost use Rattle.rules.specs.Answers.{head_found, ask_chosen};
 
 use blocks::is_occupied;
@@ -42,22 +44,22 @@ fn may_ask(
         && is_occupied(sequences, BlockSlot(cell_at(tips, head.0)))
 }
 
-#[tactic(auto, unfolding(rules::specs::Timer::asks_before))]
+// Of two heads, each with its request time.
 fn asks_before(
     hashes: &[u8],
     sequences: &[u32],
     tips: &[u32],
-    requested: &[u64],
-    head: HeadSlot,
-    other: HeadSlot,
+    asking: (u64, HeadSlot),
+    best: (u64, HeadSlot),
 ) -> bool
     ensures { result
-        ≡ asks_before hashes.now sequences.now tips.now requested.now head.0 other.0 }
+        ≡ (ltb asking.0 best.0 || (eqb asking.0 best.0
+        && block_before hashes.now sequences.now (tip_at tips.now asking.1.0) (tip_at tips.now best.1.0))) }
 {
-    let time = cell_at(requested, head.0);
-    let other_time = cell_at(requested, other.0);
-    if time != other_time {
-        return time < other_time;
+    let (time, head) = asking;
+    let (least, other) = best;
+    if time != least {
+        return time < least;
     }
     let tip = BlockSlot(cell_at(tips, head.0));
     let other_tip = BlockSlot(cell_at(tips, other.0));
@@ -77,16 +79,20 @@ fn chosen(
         ≡ chosen_rule hashes.now sequences.now tips.now requested.now connected.now
         clock retry }
 {
+    // A fold that tests each head: a filter's own loop would lie inside that of what follows it, and that is slower.
     (0..slots(tips))
         .map(HeadSlot)
-        .filter(|head| may_ask(sequences, tips, requested, connected, clock, retry, *head))
-        .reduce(|best, head| {
-            if asks_before(hashes, sequences, tips, requested, head, best) {
-                head
-            } else {
-                best
+        .fold(None, |best: Option<(u64, HeadSlot)>, head| {
+            if !may_ask(sequences, tips, requested, connected, clock, retry, head) {
+                return best;
+            }
+            let asking = (cell_at(requested, head.0), head);
+            match best {
+                Some(first) if !asks_before(hashes, sequences, tips, asking, first) => best,
+                _ => Some(asking),
             }
         })
+        .map(|best| best.1)
 }
 
 #[tactic(auto, unfolding(rules::specs::Timer::claimed))]
@@ -148,9 +154,15 @@ pub fn earliest_recovery_deadline(
 ) -> Option<u64>
     ensures { result ≡ deadline tips.now requested.now connected.now retry }
 {
+    // A fold for the same reason as in `chosen`.
     (0..slots(tips))
         .map(HeadSlot)
-        .filter(|head| is_stored(tips, connected, *head))
-        .map(|head| head_eligible_at(cell_at(requested, head.0), retry))
-        .min()
+        .fold(None, |least: Option<u64>, head| {
+            if !is_stored(tips, connected, head) {
+                return least;
+            }
+            let time = cell_at(requested, head.0);
+            Some(least.map_or(time, |least| least.min(time)))
+        })
+        .map(|least| head_eligible_at(least, retry))
 }

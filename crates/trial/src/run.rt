@@ -4,7 +4,7 @@ use std::io;
 use std::io::{ErrorKind, Read, Write};
 use std::time::Clock;
 use trial_lines::CHUNK;
-use trial_notes::{Noting, note, note_last};
+use trial_notes::Noting;
 use trial_session::Session;
 
 fn write_front(
@@ -39,7 +39,6 @@ fn tell(rt: &HostRuntime, notes: &[u8; trial_notes::ROOM], length: usize) {
 // Where a read or a write fails the trial is left there, without its listing. Nothing says that the input ends, so the turns are counted
 // up to a number that no run reaches.
 pub fn run(rt: &HostRuntime, from: &mut impl Read, name: &[u8]) {
-    let mut noted_line = [0u8; 128];
     let mut chunk = [0u8; CHUNK];
     let mut out = [0u8; trial_session::ROOM];
     let mut notes = [0u8; trial_notes::ROOM];
@@ -61,11 +60,10 @@ pub fn run(rt: &HostRuntime, from: &mut impl Read, name: &[u8]) {
         if !say(rt, &out, length) {
             return;
         }
-        let noted = note(&mut noted_line, noting, came, &mut notes);
-        noting = noted.noting;
-        tell(rt, &notes, noted.at);
+        let noted = noting.note(came, &mut notes);
+        tell(rt, &notes, noted);
     }
-    let last = note_last(&noted_line, noting, &mut notes);
+    let last = noting.note_last(&mut notes);
     let length = session.close(&mut out);
     tell(rt, &notes, last);
     say(rt, &out, length);

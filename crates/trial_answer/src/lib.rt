@@ -1,4 +1,4 @@
-// A line's call on the tables that it is given, and the line that it prints, in a lent buffer from a place on.
+// A line's call on the tables that it is given, and the line that it prints, on a page.
 #![tactic(auto)]
 
 ghost use Rattle.rules.specs.Records.{tables_of};
@@ -11,6 +11,7 @@ use trial_calls::{
     tell_under, tell_unread,
 };
 use trial_lines::Line;
+use trial_lines::page::Page;
 
 // Does the line's call and prints its answer; an unread line calls nothing and prints `?`.
 pub fn answer(
@@ -27,50 +28,49 @@ pub fn answer(
     connected: &mut [u8],
     active: BlockSlot,
     line: Option<Line>,
-    out: &mut [u8],
-    at: usize,
+    page: &mut Page<'_>,
 ) -> Told
     ensures { Tells
         (state_of (tables_of hashes.old parents.old sequences.old counts.old flags.old
         tips.old tails.old missing.old requested.old arrivals.old connected.old) active.0) line
-        out.old at
+        page.old
         (state_of (tables_of hashes.new parents.new sequences.new counts.new flags.new
         tips.new tails.new missing.new requested.new arrivals.new connected.new) result.active.0)
-        result.renewed out.new result.at }
+        result.renewed page.new }
 {
     match line {
         Some(Line::Fresh(_, _)) => tell_fresh(
             hashes, parents, sequences, counts, flags, tips, tails, missing, requested, arrivals,
-            connected, active, out, at,
+            connected, active, page,
         ),
         Some(Line::Admit(sequence, hash, previous, arrival)) => tell_admit(
             hashes, parents, sequences, counts, flags, tips, tails, missing, requested, arrivals,
-            connected, active, sequence, hash, previous, arrival, out, at,
+            connected, active, sequence, hash, previous, arrival, page,
         ),
         Some(Line::Promote(slot)) => tell_promote(
             hashes, parents, sequences, counts, flags, tips, tails, missing, requested, arrivals,
-            connected, active, slot, out, at,
+            connected, active, slot, page,
         ),
         Some(Line::Remove(slot)) => tell_remove(
             hashes, parents, sequences, counts, flags, tips, tails, missing, requested, arrivals,
-            connected, active, slot, out, at,
+            connected, active, slot, page,
         ),
         Some(Line::Under(slot)) => tell_under(
             hashes, parents, sequences, counts, flags, tips, tails, missing, requested, arrivals,
-            connected, active, slot, out, at,
+            connected, active, slot, page,
         ),
         Some(Line::Screen) => tell_screen(
             hashes, parents, sequences, counts, flags, tips, tails, missing, requested, arrivals,
-            connected, active, out, at,
+            connected, active, page,
         ),
         Some(Line::Timer(clock, retry)) => tell_timer(
             hashes, parents, sequences, counts, flags, tips, tails, missing, requested, arrivals,
-            connected, active, clock, retry, out, at,
+            connected, active, clock, retry, page,
         ),
         Some(Line::Restart(clock)) => tell_restart(
             hashes, parents, sequences, counts, flags, tips, tails, missing, requested, arrivals,
-            connected, active, clock, out, at,
+            connected, active, clock, page,
         ),
-        None => tell_unread(active, out, at),
+        None => tell_unread(active, page),
     }
 }

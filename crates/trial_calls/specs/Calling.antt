@@ -1,13 +1,14 @@
 -- What the call of a line does to the tables that it is given, and what the line prints (01, "One trial whole"): P is 80, R 82, ? 63.
-use Rattle.std.specs.Prelude.{◌≡◌, Bool, true, false, not, List, [], ℕ, length, replicate, Some, Option, None}
-use Rattle.std.proofs.lemmas.List.Edits.{sets}
+use Rattle.std.specs.Prelude.{◌≡◌, Bool, true, false, not, List, [], ℕ, replicate, Some, Option, None}
 use Rattle.rules.specs.Hashes.{hash_length}
 use Rattle.rules.specs.Answers.{Answer, refused, done, slot, freed, hangs, shown, request, none_due, due_at, never_due}
 use Rattle.rules.specs.Calls.{State, Stepped, answering, heads_in, fresh, under, screen, step, admit_call, promote_call, remove_call, timer_call, restart_call}
-use Rattle.trial_lines.specs.Writing.{place, letter_line, number_line}
+use Rattle.trial_lines.specs.Writing.{letter_line, number_line}
+use Rattle.trial_lines.specs.Printing.{printed}
 use Rattle.trial_lines.specs.Said.{said}
 use Rattle.trial_lines.specs.declared.Line.{Line}
 use Rattle.trial_lines.specs.declared.Line.TheVariants.{Fresh, Admit, Promote, Remove, Under, Screen, Timer, Restart}
+use Rattle.trial_lines.specs.declared.page.Page.{Page}
 
 -- a hash is a line's byte 32 times, a screen's list has a record for every head slot; an unread line calls nothing
 unfoldable pub called : (s : State) (line : Option Line) → Stepped
@@ -61,10 +62,8 @@ renews (Some (Timer now retry)) answer = false
 renews (Some (Restart now)) answer = false
 renews None answer = false
 
--- a line's call on a state s: the state u that it leaves, whether it brings new tables, and its line in a buffer from a place on
-pub record Tells (s : State) (line : Option Line) (out : List ℕ) (at : ℕ)
-    (u : State) (renewed : Bool) (written : List ℕ) (next : ℕ) : Type 0 where
+-- a line's call on a state s: the state u that it leaves, whether it brings new tables, and its line on a page
+pub record Tells (s : State) (line : Option Line) (page : Page) (u : State) (renewed : Bool) (told : Page) : Type 0 where
   pub left : u ≡ (called s line).after
   pub anew : renewed ≡ renews line (called s line).answer
-  pub text : written ≡ sets out at (line_said line (called s line).answer)
-  pub end : next ≡ place (length out) at (length (line_said line (called s line).answer))
+  pub text : told ≡ printed page (line_said line (called s line).answer)

@@ -1,5 +1,4 @@
-// The calls of a trial's lines, a function for each letter, on the tables that they are given. What each prints goes into a lent
-// buffer, from a place on.
+// The calls of a trial's lines, a function for each letter, on the tables that they are given. What each prints goes on a page.
 #![tactic(auto)]
 
 mod screen;
@@ -15,7 +14,7 @@ use fresh_call::fresh;
 use promote_call::promote;
 use remove_call::remove;
 use restart_call::restart;
-use rules::{BlockSlot, Sequence};
+use rules::{BlockSlot, Sequence, View};
 use screen::screen_lines;
 use screen_call::screen;
 use timer_call::timer;
@@ -23,14 +22,14 @@ use trial_lines::answers::{
     admit_line, fresh_line, promote_line, remove_line, restart_line, timer_line, under_line,
 };
 use trial_lines::lines::letter_line;
+use trial_lines::page::Page;
 use under_call::under;
 
-// What the record holds after a line, whether the line brings new tables, and the place after what it prints.
+// What the record holds after a line, and whether the line brings new tables.
 #[derive(Clone, Copy)]
 pub struct Told {
     pub active: BlockSlot,
     pub renewed: bool,
-    pub at: usize,
 }
 
 // The tables are made fresh as they come, whatever sizes the line names.
@@ -47,25 +46,24 @@ pub fn tell_fresh(
     arrivals: &mut [u64],
     connected: &mut [u8],
     active: BlockSlot,
-    out: &mut [u8],
-    at: usize,
+    page: &mut Page<'_>,
 ) -> Told
     ensures { (n m : ℕ)
         → Tells (state_of (tables_of hashes.old parents.old sequences.old counts.old flags.old
         tips.old tails.old missing.old requested.old arrivals.old connected.old) active.0)
-        (Some (Fresh n m)) out.old at
+        (Some (Fresh n m)) page.old
         (state_of (tables_of hashes.new parents.new sequences.new counts.new flags.new
         tips.new tails.new missing.new requested.new arrivals.new connected.new) result.active.0)
-        result.renewed out.new result.at }
+        result.renewed page.new }
 {
     let answer = fresh(
         hashes, parents, sequences, counts, flags, tips, tails, missing, requested, arrivals,
         connected, active,
     );
+    fresh_line(page, answer);
     Told {
         active: answer.unwrap_or(active),
         renewed: answer.is_ok(),
-        at: fresh_line(out, at, answer),
     }
 }
 
@@ -87,16 +85,15 @@ pub fn tell_admit(
     hash: u8,
     previous: u8,
     arrival: u64,
-    out: &mut [u8],
-    at: usize,
+    page: &mut Page<'_>,
 ) -> Told
     ensures { Tells
         (state_of (tables_of hashes.old parents.old sequences.old counts.old flags.old
         tips.old tails.old missing.old requested.old arrivals.old connected.old) active.0)
-        (Some (Admit sequence hash previous arrival)) out.old at
+        (Some (Admit sequence hash previous arrival)) page.old
         (state_of (tables_of hashes.new parents.new sequences.new counts.new flags.new
         tips.new tails.new missing.new requested.new arrivals.new connected.new) result.active.0)
-        result.renewed out.new result.at }
+        result.renewed page.new }
 {
     let own = [hash; 32];
     let before = [previous; 32];
@@ -104,10 +101,10 @@ pub fn tell_admit(
         hashes, parents, sequences, counts, flags, tips, tails, missing, requested, arrivals,
         connected, active, sequence, &own, &before, arrival,
     );
+    admit_line(page, answer);
     Told {
         active,
         renewed: false,
-        at: admit_line(out, at, answer),
     }
 }
 
@@ -126,25 +123,24 @@ pub fn tell_promote(
     connected: &mut [u8],
     active: BlockSlot,
     slot: BlockSlot,
-    out: &mut [u8],
-    at: usize,
+    page: &mut Page<'_>,
 ) -> Told
     ensures { Tells
         (state_of (tables_of hashes.now parents.now sequences.now counts.now flags.old
         tips.now tails.old missing.old requested.old arrivals.now connected.old) active.0)
-        (Some (Promote slot)) out.old at
+        (Some (Promote slot)) page.old
         (state_of (tables_of hashes.now parents.now sequences.now counts.now flags.new
         tips.now tails.new missing.new requested.new arrivals.now connected.new) result.active.0)
-        result.renewed out.new result.at }
+        result.renewed page.new }
 {
     let answer = promote(
         hashes, parents, sequences, counts, flags, tips, tails, missing, requested, arrivals,
         connected, active, slot,
     );
+    promote_line(page, answer, slot);
     Told {
         active: answer.unwrap_or(active),
         renewed: false,
-        at: promote_line(out, at, answer, slot),
     }
 }
 
@@ -163,25 +159,24 @@ pub fn tell_remove(
     connected: &mut [u8],
     active: BlockSlot,
     slot: BlockSlot,
-    out: &mut [u8],
-    at: usize,
+    page: &mut Page<'_>,
 ) -> Told
     ensures { Tells
         (state_of (tables_of hashes.old parents.old sequences.old counts.old flags.old
         tips.old tails.old missing.old requested.old arrivals.old connected.old) active.0)
-        (Some (Remove slot)) out.old at
+        (Some (Remove slot)) page.old
         (state_of (tables_of hashes.new parents.new sequences.new counts.new flags.new
         tips.new tails.new missing.new requested.new arrivals.new connected.new) result.active.0)
-        result.renewed out.new result.at }
+        result.renewed page.new }
 {
     let answer = remove(
         hashes, parents, sequences, counts, flags, tips, tails, missing, requested, arrivals,
         connected, slot,
     );
+    remove_line(page, answer);
     Told {
         active,
         renewed: false,
-        at: remove_line(out, at, answer),
     }
 }
 
@@ -200,25 +195,34 @@ pub fn tell_under(
     connected: &[u8],
     active: BlockSlot,
     slot: BlockSlot,
-    out: &mut [u8],
-    at: usize,
+    page: &mut Page<'_>,
 ) -> Told
     ensures { Tells
         (state_of (tables_of hashes.now parents.now sequences.now counts.now flags.now
         tips.now tails.now missing.now requested.now arrivals.now connected.now) active.0)
-        (Some (Under slot)) out.old at
+        (Some (Under slot)) page.old
         (state_of (tables_of hashes.now parents.now sequences.now counts.now flags.now
         tips.now tails.now missing.now requested.now arrivals.now connected.now) result.active.0)
-        result.renewed out.new result.at }
+        result.renewed page.new }
 {
-    let answer = under(
-        hashes, parents, sequences, counts, flags, tips, tails, missing, requested, arrivals,
-        connected, slot,
-    );
+    let view = View {
+        hashes,
+        parents,
+        sequences,
+        counts,
+        flags,
+        tips,
+        tails,
+        missing,
+        requested,
+        arrivals,
+        connected,
+    };
+    let answer = under(&view, slot);
+    under_line(page, answer);
     Told {
         active,
         renewed: false,
-        at: under_line(out, at, answer),
     }
 }
 
@@ -236,19 +240,17 @@ pub fn tell_screen(
     arrivals: &[u64],
     connected: &[u8],
     active: BlockSlot,
-    out: &mut [u8],
-    at: usize,
+    page: &mut Page<'_>,
 ) -> Told
     ensures { Tells
         (state_of (tables_of hashes.now parents.now sequences.now counts.now flags.now
         tips.now tails.now missing.now requested.now arrivals.now connected.now) active.0)
-        (Some Screen) out.old at
+        (Some Screen) page.old
         (state_of (tables_of hashes.now parents.now sequences.now counts.now flags.now
         tips.now tails.now missing.now requested.now arrivals.now connected.now) result.active.0)
-        result.renewed out.new result.at }
+        result.renewed page.new }
 {
-    let mut keys = [0u64; 64];
-    let answer = screen(
+    let view = View {
         hashes,
         parents,
         sequences,
@@ -260,13 +262,13 @@ pub fn tell_screen(
         requested,
         arrivals,
         connected,
-        tips.len(),
-        &mut keys,
-    );
+    };
+    let mut keys = [0u64; 64];
+    let answer = screen(&view, tips.len(), &mut keys);
+    screen_lines(sequences, tips, tails, connected, keys, answer, page);
     Told {
         active,
         renewed: false,
-        at: screen_lines(sequences, tips, tails, connected, keys, answer, out, at),
     }
 }
 
@@ -286,16 +288,15 @@ pub fn tell_timer(
     active: BlockSlot,
     clock: u64,
     retry: u64,
-    out: &mut [u8],
-    at: usize,
+    page: &mut Page<'_>,
 ) -> Told
     ensures { Tells
         (state_of (tables_of hashes.now parents.now sequences.now counts.now flags.now
         tips.now tails.now missing.now requested.old arrivals.now connected.now) active.0)
-        (Some (Timer clock retry)) out.old at
+        (Some (Timer clock retry)) page.old
         (state_of (tables_of hashes.now parents.now sequences.now counts.now flags.now
         tips.now tails.now missing.now requested.new arrivals.now connected.now) result.active.0)
-        result.renewed out.new result.at }
+        result.renewed page.new }
 {
     let answer = timer(
         hashes,
@@ -312,10 +313,10 @@ pub fn tell_timer(
         clock,
         Some(retry),
     );
+    timer_line(page, answer);
     Told {
         active,
         renewed: false,
-        at: timer_line(out, at, answer),
     }
 }
 
@@ -334,36 +335,35 @@ pub fn tell_restart(
     connected: &mut [u8],
     active: BlockSlot,
     clock: u64,
-    out: &mut [u8],
-    at: usize,
+    page: &mut Page<'_>,
 ) -> Told
     ensures { Tells
         (state_of (tables_of hashes.old parents.old sequences.old counts.old flags.old
         tips.old tails.old missing.old requested.old arrivals.old connected.old) active.0)
-        (Some (Restart clock)) out.old at
+        (Some (Restart clock)) page.old
         (state_of (tables_of hashes.new parents.new sequences.new counts.new flags.new
         tips.new tails.new missing.new requested.new arrivals.new connected.new) result.active.0)
-        result.renewed out.new result.at }
+        result.renewed page.new }
 {
     let answer = restart(
         hashes, parents, sequences, counts, flags, tips, tails, missing, requested, arrivals,
         connected, active, clock,
     );
+    restart_line(page, answer);
     Told {
         active,
         renewed: false,
-        at: restart_line(out, at, answer),
     }
 }
 
 // An unread line calls nothing and prints `?`.
-pub fn tell_unread(active: BlockSlot, out: &mut [u8], at: usize) -> Told
+pub fn tell_unread(active: BlockSlot, page: &mut Page<'_>) -> Told
     ensures { (t : Tables)
-        → Tells (state_of t active.0) None out.old at (state_of t result.active.0) result.renewed out.new result.at }
+        → Tells (state_of t active.0) None page.old (state_of t result.active.0) result.renewed page.new }
 {
+    letter_line(page, b'?');
     Told {
         active,
         renewed: false,
-        at: letter_line(out, at, b'?'),
     }
 }

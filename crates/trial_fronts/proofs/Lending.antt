@@ -12,7 +12,8 @@ use Rattle.rules.specs.Records.{Tables, tables_of}
 use Rattle.rules.specs.Calls.{state_of}
 use Rattle.rules.proofs.Splits.{less?}
 use Rattle.trial_lines.specs.declared.Line.{Line}
-use Rattle.trial_lines.proofs.Places.{Put}
+use Rattle.trial_lines.specs.Printing.{printed}
+use Rattle.trial_lines.specs.declared.page.Page.{Page}
 use Rattle.trial_calls.specs.Calling.{Tells}
 use Rattle.trial_listing.specs.Listing.{listing_of}
 use Rattle.trial_fronts.specs.Fronts.{front, behind, TellsFront}
@@ -94,9 +95,9 @@ module _ {n m : ℕ} {t lent back u : Tables} (l : Lent n m t lent back u) where
   unfolding behind
   rest-is = same_tables (behind n m u) (behind n m t) (record { hashes = l.hashes.rest; parents = l.parents.rest; sequences = l.sequences.rest; counts = l.counts.rest; flags = l.flags.rest; tips = l.tips.rest; tails = l.tails.rest; missing = l.missing.rest; requested = l.requested.rest; arrivals = l.arrivals.rest; connected = l.connected.rest })
 
-pub tells-front : {n m : ℕ} {t lent back u : Tables} {a b : ℕ} {line : Option Line} {out written : List ℕ} {at next : ℕ} {renewed : Bool}
-    → Tells (state_of lent a) line out at (state_of back b) renewed written next → Lent n m t lent back u
-    → TellsFront n m t a line out at u b renewed written next
+pub tells-front : {n m : ℕ} {t lent back u : Tables} {a b : ℕ} {line : Option Line} {page told : Page} {renewed : Bool}
+    → Tells (state_of lent a) line page (state_of back b) renewed told → Lent n m t lent back u
+    → TellsFront n m t a line page u b renewed told
 tells-front tell l = (rw (← lent_is l, back_is l) tell, rest-is l)
 
 -- ---- a front that is only read
@@ -108,8 +109,8 @@ front-is k e array is =
     (λ h. rw z (take_all e array (omega arith) ∙ sym (take_all k array (omega arith))))
     (λ h. let q : e ≡ k = omega arith in rw (z, q))
 
-pub lists-front : (out written : List ℕ) (at next : ℕ) (p s c f t l k p' s' c' f' t' l' k' : List ℕ)
-    → Put out at (listing_of p s c f t l k) written next
+pub lists-front : (page told : Page) (p s c f t l k p' s' c' f' t' l' k' : List ℕ)
+    → told ≡ printed page (listing_of p s c f t l k)
     → p ≡ p' → s ≡ s' → c ≡ c' → f ≡ f' → t ≡ t' → l ≡ l' → k ≡ k'
-    → Put out at (listing_of p' s' c' f' t' l' k') written next
-lists-front out written at next p s c f t l k p' s' c' f' t' l' k' put e₁ e₂ e₃ e₄ e₅ e₆ e₇ = rw (← e₁, ← e₂, ← e₃, ← e₄, ← e₅, ← e₆, ← e₇) put
+    → told ≡ printed page (listing_of p' s' c' f' t' l' k')
+lists-front page told p s c f t l k p' s' c' f' t' l' k' is e₁ e₂ e₃ e₄ e₅ e₆ e₇ = rw (← e₁, ← e₂, ← e₃, ← e₄, ← e₅, ← e₆, ← e₇) is

@@ -1,10 +1,11 @@
 -- The arrays of a trial as tables, and tables at the front of arrays: their first slots, what stands behind these, one before the other.
-use Rattle.std.specs.Prelude.{List, ◌++◌, ◌≡◌, Bool, ℕ, ◌+◌, ◌*◌, min, length, take, drop, Option}
+use Rattle.std.specs.Prelude.{◌++◌, ◌≡◌, Bool, ℕ, ◌+◌, ◌*◌, min, length, take, drop, Option}
 use Rattle.rules.specs.Kinds.{BlockSlot}
 use Rattle.rules.specs.Hashes.{hash_length}
 use Rattle.rules.specs.Records.{Blocks, Heads, Tables, tables_of}
 use Rattle.rules.specs.Calls.{max_blocks, max_heads, state_of}
 use Rattle.trial_lines.specs.declared.Line.{Line}
+use Rattle.trial_lines.specs.declared.page.Page.{Page}
 use Rattle.trial_calls.specs.Calling.{Tells}
 use Rattle.trial_fronts.specs.declared.Ends.{Ends}
 use Rattle.trial_fronts.specs.declared.Arrays.{Arrays}
@@ -83,8 +84,8 @@ pub record Cut (n m : ℕ) (ends : Ends) (t : Tables) : Type 0 where
   pub connected : ends.connected ≡ min m (length t.heads.connected)
 
 -- what a line's call is told of the front of arrays t, which becomes the front of u, and what stands behind is left
-abbrev pub TellsFront : (n m : ℕ) (t : Tables) (active_head : BlockSlot) (line : Option Line) (out : List ℕ) (at : ℕ)
-    (u : Tables) (active : BlockSlot) (renewed : Bool) (written : List ℕ) (next : ℕ) → Type 0
-TellsFront n m t active_head line out at u active renewed written next =
-    Tells (state_of (front n m t) active_head) line out at (state_of (front n m u) active) renewed written next
+abbrev pub TellsFront : (n m : ℕ) (t : Tables) (active_head : BlockSlot) (line : Option Line) (page : Page)
+    (u : Tables) (active : BlockSlot) (renewed : Bool) (told : Page) → Type 0
+TellsFront n m t active_head line page u active renewed told =
+    Tells (state_of (front n m t) active_head) line page (state_of (front n m u) active) renewed told
     × (behind n m u ≡ behind n m t)

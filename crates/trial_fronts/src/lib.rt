@@ -1,10 +1,9 @@
 // The fronts of lent arrays, as many slots as are in use, lent on: to a line's call, and to the listing. The arrays of a trial, all as one.
 #![tactic(auto)]
 
-ghost use Rattle.std.specs.Prelude.{◌≡◌, length, take};
-ghost use Rattle.std.proofs.lemmas.List.Edits.{sets};
+ghost use Rattle.std.specs.Prelude.{◌≡◌, take};
 ghost use Rattle.rules.specs.Records.{tables_of};
-ghost use Rattle.trial_lines.specs.Writing.{place};
+ghost use Rattle.trial_lines.specs.Printing.{printed};
 ghost use Rattle.trial_listing.specs.Listing.{listing_of};
 ghost use Rattle.trial_fronts.specs.Fronts.{array_blocks, array_heads, Sized, tables_in, Cut, TellsFront};
 
@@ -12,6 +11,7 @@ use rules::BlockSlot;
 use trial_answer::answer;
 use trial_calls::Told;
 use trial_lines::Line;
+use trial_lines::page::Page;
 use trial_listing::listing;
 
 // Where the front of each array ends.
@@ -83,15 +83,14 @@ pub fn answer_front(
     m: u32,
     active: BlockSlot,
     line: Option<Line>,
-    out: &mut [u8],
-    at: usize,
+    page: &mut Page<'_>,
 ) -> Told
     ensures { TellsFront n m (tables_of hashes.old parents.old sequences.old counts.old flags.old
         tips.old tails.old missing.old requested.old arrivals.old connected.old)
-        active.0 line out.old at
+        active.0 line page.old
         (tables_of hashes.new parents.new sequences.new counts.new flags.new
         tips.new tails.new missing.new requested.new arrivals.new connected.new) result.active.0 result.renewed
-        out.new result.at }
+        page.new }
 {
     let end = cut(
         hashes, parents, sequences, counts, flags, tips, tails, missing, requested, arrivals,
@@ -111,8 +110,7 @@ pub fn answer_front(
         &mut connected[..end.connected],
         active,
         line,
-        out,
-        at,
+        page,
     )
 }
 
@@ -127,20 +125,12 @@ pub fn list_front(
     connected: &[u8],
     n: u32,
     m: u32,
-    out: &mut [u8],
-    at: usize,
-) -> usize
-    ensures { (out.new
-        ≡ sets out.old at
+    page: &mut Page<'_>,
+)
+    ensures { page.new ≡ printed page.old
         (listing_of (take n parents.now) (take n sequences.now) (take n counts.now)
         (take n flags.now) (take m tips.now) (take m tails.now)
-        (take m connected.now)))
-        × (result
-        ≡ place (length out.old) at
-        (length
-        (listing_of (take n parents.now) (take n sequences.now) (take n counts.now)
-        (take n flags.now) (take m tips.now) (take m tails.now)
-        (take m connected.now)))) }
+        (take m connected.now)) }
 {
     let blocks = n as usize;
     let heads = m as usize;
@@ -159,8 +149,7 @@ pub fn list_front(
         &tips[0..tip_end],
         &tails[0..tail_end],
         &connected[0..connected_end],
-        out,
-        at,
+        page,
     )
 }
 
@@ -188,11 +177,10 @@ impl Arrays {
         m: u32,
         active: BlockSlot,
         line: Option<Line>,
-        out: &mut [u8],
-        at: usize,
+        page: &mut Page<'_>,
     ) -> Told
-        ensures tells { TellsFront n m (tables_in self.old) active.0 line out.old at
-            (tables_in self.new) result.active.0 result.renewed out.new result.at }
+        ensures tells { TellsFront n m (tables_in self.old) active.0 line page.old
+            (tables_in self.new) result.active.0 result.renewed page.new }
         ensures sized { Sized array_blocks array_heads (tables_in self.old) }
     {
         answer_front(
@@ -211,24 +199,16 @@ impl Arrays {
             m,
             active,
             line,
-            out,
-            at,
+            page,
         )
     }
 
     // The listing of the first n block slots and the first m head slots, as many as there are.
-    pub fn list(&self, n: u32, m: u32, out: &mut [u8], at: usize) -> usize
-        ensures lists { (out.new
-            ≡ sets out.old at
+    pub fn list(&self, n: u32, m: u32, page: &mut Page<'_>)
+        ensures lists { page.new ≡ printed page.old
             (listing_of (take n self.now.parents) (take n self.now.sequences) (take n self.now.counts)
             (take n self.now.flags) (take m self.now.tips) (take m self.now.tails)
-            (take m self.now.connected)))
-            × (result
-            ≡ place (length out.old) at
-            (length
-            (listing_of (take n self.now.parents) (take n self.now.sequences) (take n self.now.counts)
-            (take n self.now.flags) (take m self.now.tips) (take m self.now.tails)
-            (take m self.now.connected)))) }
+            (take m self.now.connected)) }
         ensures sized { Sized array_blocks array_heads (tables_in self.now) }
     {
         list_front(
@@ -241,8 +221,7 @@ impl Arrays {
             &self.connected,
             n,
             m,
-            out,
-            at,
+            page,
         )
     }
 }

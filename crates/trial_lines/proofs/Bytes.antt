@@ -1,5 +1,5 @@
 -- The length of a field, and the value of a number byte by byte.
-use mathlib.Core.Path.{◌≡◌}
+use mathlib.Core.Path.{◌≡◌, refl}
 use mathlib.Core.Bool.{true, false, not}
 use mathlib.Core.List.{List, [], ◌∷◌}
 use Rattle.std.specs.Prelude.{None, Some, unwrap_or, position}
@@ -9,11 +9,12 @@ use native.Mathlib.Numerals.{add-one}
 use native.Mathlib.Omega.{arith}
 use borrow.Author.Tests.{lt-ltb, le-ltb, le-leb}
 use lib.Dec.{eqb, ltb}
-use lib.ListN.{length, get_or, drop, drop_of_length-le}
-use lib.Seq.{drop-cons}
+use lib.ListN.{length, get_or, take, drop, drop_of_length-le}
+use lib.Seq.{drop-cons, take_all}
 use Rattle.std.proofs.lemmas.List.Sums.{prefix_len-le-length}
+use Rattle.std.proofs.lemmas.List.Folds.{list_all_at, list_all_more}
 use Rattle.rules.proofs.Splits.{less?, split}
-use Rattle.trial_lines.specs.Reading.{field_length, all_digits, value_from, number}
+use Rattle.trial_lines.specs.Reading.{field_length, is_digit, all_digits, value_from, number}
 
 -- ---- fields
 
@@ -44,7 +45,24 @@ unfolding value_from
 value_grows n [] = omega arith
 value_grows n (b ∷ bytes) = let h = value_grows (n * 10 + (b - 48)) bytes in omega arith
 
-pub ruleset values = (value-goes, value-end, value_grows)
+-- every byte is a digit, one after the other
+pub digits-first : all_digits [] ≡ true
+unfolding all_digits
+digits-first = refl
+
+pub digits-more : (bytes : List ℕ) (i : ℕ) → i < length bytes → all_digits (take i bytes) ≡ true → is_digit (get_or bytes i 0) ≡ true
+    → all_digits (take (i + 1) bytes) ≡ true
+unfolding all_digits
+digits-more bytes i h e d = rw (list_all_more is_digit bytes i 0 h, e, d)
+
+pub digits-not : (bytes : List ℕ) (i : ℕ) → i < length bytes → is_digit (get_or bytes i 0) ≡ false → all_digits bytes ≡ false
+unfolding all_digits
+digits-not bytes i h d = list_all_at is_digit bytes i 0 h d
+
+pub digits-whole : (bytes : List ℕ) (i : ℕ) → length bytes ≤ i → all_digits (take i bytes) ≡ true → all_digits bytes ≡ true
+digits-whole bytes i h e = rw (take_all i bytes h) at e
+
+pub ruleset values = (value-goes, value-end, value_grows, digits-first, digits-more, digits-not, digits-whole)
 
 pub number-empty : (most : ℕ) (bytes : List ℕ) → length bytes ≡ 0 → number most bytes ≡ None
 unfolding number

@@ -1,6 +1,6 @@
 pub mod Bytes
+pub mod Digits
 pub mod Joined
-pub mod Pieces
-pub mod Places
+pub mod Printing
 pub mod ReadBack
 pub mod Short

@@ -1,5 +1,5 @@
--- What has come of a line (01, "One trial whole"), and how the start of a buffer holds it.
-use Rattle.std.specs.Prelude.{Bool, true, false, List, [], ◌∷◌, ◌++◌, ℕ, ltb, leb, length, take, if◌then◌else◌, Option, None}
+-- What has come of a line (01, "One trial whole").
+use Rattle.std.specs.Prelude.{Bool, true, false, List, [], ◌∷◌, ◌++◌, ℕ, ltb, length, if◌then◌else◌, Option, None}
 use Rattle.trial_lines.specs.Reading.{parse}
 use Rattle.trial_lines.specs.declared.Line.{Line}
 
@@ -23,10 +23,6 @@ has_begun too_long = true
 unfoldable pub line_begun : (begun : Begun) → Option Line
 line_begun (so_far bytes) = parse bytes
 line_begun too_long = None
-
--- more bytes than the buffer has are too many
-unfoldable pub begun_of : (line : List ℕ) (begun : ℕ) → Begun
-begun_of line begun = if leb begun line_most then so_far (take begun line) else too_long
 
 -- how many bytes are taken at once
 abbrev pub chunk_most : ℕ

@@ -1,4 +1,6 @@
 pub mod Begun
+pub mod Fed
+pub mod Printing
 pub mod Reading
 pub mod Said
 pub mod Text

@@ -60,14 +60,14 @@ time_most = max_time
 abbrev pub hex_digit : (byte : ℕ) → Option ℕ
 hex_digit b = if is_digit b then Some (b - 48) else if leb 97 b && leb b 102 then Some (b - 87) else None
 
-abbrev pub two_digits : (high low : ℕ) → Option ℕ
-two_digits high low = do
+abbrev pub hex_pair : (high low : ℕ) → Option ℕ
+hex_pair high low = do
   h ← hex_digit high
   l ← hex_digit low
   Some (h * 16 + l)
 
 unfoldable pub hash_byte : (bytes : List ℕ) → Option ℕ
-hash_byte bytes = if eqb (length bytes) 2 then two_digits (get_or bytes 0 0) (get_or bytes 1 0) else None
+hash_byte bytes = if eqb (length bytes) 2 then hex_pair (get_or bytes 0 0) (get_or bytes 1 0) else None
 
 -- ---- lines; a line with a field that cannot be read is unread
 

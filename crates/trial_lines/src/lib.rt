@@ -6,11 +6,12 @@
 
 pub mod answers;
 pub mod begun;
+pub mod chunks;
 pub mod fields;
 pub mod lines;
 pub mod numbers;
+pub mod page;
 pub mod read;
-pub mod text;
 
 use rules::{BlockSlot, Sequence};
 

@@ -1,125 +1,112 @@
-// Lines of output, each with its end, from a place of a lent buffer on. What is returned is the place after it.
-ghost use Rattle.std.specs.Prelude.{◌≡◌, length, get_or, if◌then◌else◌};
-ghost use Rattle.std.proofs.lemmas.List.Edits.{sets};
-ghost use Rattle.trial_lines.specs.Writing.{place, number_line, hanging_line, row_line, request_line, none_due_line, letter_line, block_line, head_line};
+// Lines of output, each with its end, on a page.
+ghost use Rattle.std.specs.Prelude.{◌≡◌, get_or, if◌then◌else◌};
+ghost use Rattle.trial_lines.specs.Writing.{number_line, hanging_line, row_line, request_line, none_due_line, letter_line, block_line, head_line};
+ghost use Rattle.trial_lines.specs.Printing.{printed};
 
-use crate::text::{put, put_field, put_hex, put_reference};
+use crate::page::Page;
 use rules::{BlockSlot, Hanging, HeadKind, HeadRow, HeadSlot, Request, Sequence};
 
-fn pick(test: bool, yes: u8, no: u8) -> u8
-    ensures { result ≡ (if test then yes else no) }
-{
-    if test { yes } else { no }
-}
-
 // A letter and a number: an answer or a refusal.
-pub fn number_line(out: &mut [u8], at: usize, letter: u8, n: u32) -> usize
-    ensures { (out.new ≡ sets out.old at (number_line letter n))
-        × (result ≡ place (length out.old) at (length (number_line letter n))) }
+#[tactic(auto, unfolding(crate::specs::Writing::number_line), using(crate::proofs::Printing::printing))]
+pub fn number_line(page: &mut Page<'_>, letter: u8, n: u32)
+    ensures { page.new ≡ printed page.old (number_line letter n) }
 {
-    let a = put(out, at, letter);
-    let b = put_field(out, a, n);
-    put(out, b, b'\n')
+    page.put(letter);
+    page.field(n);
+    page.put(b'\n');
 }
 
 // A letter alone: `R`, and `?` for an unread line.
-pub fn letter_line(out: &mut [u8], at: usize, letter: u8) -> usize
-    ensures { (out.new ≡ sets out.old at (letter_line letter))
-        × (result ≡ place (length out.old) at (length (letter_line letter))) }
+#[tactic(auto, unfolding(crate::specs::Writing::letter_line), using(crate::proofs::Printing::printing))]
+pub fn letter_line(page: &mut Page<'_>, letter: u8)
+    ensures { page.new ≡ printed page.old (letter_line letter) }
 {
-    let a = put(out, at, letter);
-    put(out, a, b'\n')
+    page.put(letter);
+    page.put(b'\n');
 }
 
 // How much hangs under a block: the number of blocks, and the highest sequence among them.
-pub fn hanging_line(out: &mut [u8], at: usize, hanging: Hanging) -> usize
-    ensures { (out.new ≡ sets out.old at (hanging_line hanging.blocks hanging.highest.0))
-        × (result ≡ place (length out.old) at (length (hanging_line hanging.blocks hanging.highest.0))) }
+#[tactic(auto, unfolding(crate::specs::Writing::hanging_line), using(crate::proofs::Printing::printing))]
+pub fn hanging_line(page: &mut Page<'_>, hanging: Hanging)
+    ensures { page.new ≡ printed page.old (hanging_line hanging.blocks hanging.highest.0) }
 {
-    let a = put(out, at, b'U');
-    let b = put_field(out, a, hanging.blocks);
-    let c = put_field(out, b, hanging.highest.0);
-    put(out, c, b'\n')
+    page.put(b'U');
+    page.field(hanging.blocks);
+    page.field(hanging.highest.0);
+    page.put(b'\n');
 }
 
 // A record of the screen: `V`, tip, sequence, `C` for connected or `S` for stored, and anchor; `-` is none.
-pub fn row_line(out: &mut [u8], at: usize, row: HeadRow) -> usize
-    ensures { (out.new ≡ sets out.old at (row_line row))
-        × (result ≡ place (length out.old) at (length (row_line row))) }
+#[tactic(auto, unfolding(crate::specs::Writing::row_line), using(crate::proofs::Printing::printing))]
+pub fn row_line(page: &mut Page<'_>, row: HeadRow)
+    ensures { page.new ≡ printed page.old (row_line row) }
 {
-    let a = put(out, at, b'V');
-    let b = put_reference(out, a, row.tip.0);
-    let c = put_reference(out, b, row.sequence.0);
-    let d = put(out, c, b' ');
-    let e = put(out, d, pick(row.kind == HeadKind::CONNECTED, b'C', b'S'));
-    let f = put_reference(out, e, row.anchor.0);
-    put(out, f, b'\n')
+    page.put(b'V');
+    page.reference(row.tip.0);
+    page.reference(row.sequence.0);
+    let connected = row.kind == HeadKind::CONNECTED;
+    page.text(if connected { b" C" } else { b" S" });
+    page.reference(row.anchor.0);
+    page.put(b'\n');
 }
 
 // A timer's request: the head, the claimed sequence, and the missing hash by its first byte.
-pub fn request_line(out: &mut [u8], at: usize, request: Request) -> usize
-    ensures { (out.new ≡ sets out.old at (request_line request.head.0 request.claimed.0 (get_or request.missing 0 0)))
-        × (result ≡ place (length out.old) at (length (request_line request.head.0 request.claimed.0 (get_or request.missing 0 0)))) }
+#[tactic(auto, unfolding(crate::specs::Writing::request_line), using(crate::proofs::Printing::printing))]
+pub fn request_line(page: &mut Page<'_>, request: Request)
+    ensures { page.new ≡ printed page.old (request_line request.head.0 request.claimed.0 (get_or request.missing 0 0)) }
 {
-    let a = put(out, at, b'T');
-    let b = put_field(out, a, request.head.0);
-    let c = put_field(out, b, request.claimed.0);
-    let d = put(out, c, b' ');
-    let e = put_hex(out, d, request.missing[0]);
-    put(out, e, b'\n')
+    page.put(b'T');
+    page.field(request.head.0);
+    page.field(request.claimed.0);
+    page.put(b' ');
+    page.hex(request.missing[0]);
+    page.put(b'\n');
 }
 
 // A timer's answer when none is due: `T -`.
-pub fn none_due_line(out: &mut [u8], at: usize) -> usize
-    ensures { (out.new ≡ sets out.old at none_due_line)
-        × (result ≡ place (length out.old) at (length none_due_line)) }
+#[tactic(auto, unfolding(crate::specs::Writing::none_due_line))]
+pub fn none_due_line(page: &mut Page<'_>)
+    ensures { page.new ≡ printed page.old none_due_line }
 {
-    let a = put(out, at, b'T');
-    let b = put(out, a, b' ');
-    let c = put(out, b, b'-');
-    put(out, c, b'\n')
+    page.text(b"T -\n");
 }
 
 // A block: `B`, slot, sequence, parent or `-`, count, and 1 for active or 0.
+#[tactic(auto, unfolding(crate::specs::Writing::block_line), using(crate::proofs::Printing::printing))]
 pub fn block_line(
-    out: &mut [u8],
-    at: usize,
+    page: &mut Page<'_>,
     slot: BlockSlot,
     sequence: Sequence,
     parent: BlockSlot,
     count: u8,
     active: bool,
-) -> usize
-    ensures { (out.new ≡ sets out.old at (block_line slot.0 sequence.0 parent.0 count active))
-        × (result ≡ place (length out.old) at (length (block_line slot.0 sequence.0 parent.0 count active))) }
+)
+    ensures { page.new ≡ printed page.old (block_line slot.0 sequence.0 parent.0 count active) }
 {
-    let a = put(out, at, b'B');
-    let b = put_field(out, a, slot.0);
-    let c = put_field(out, b, sequence.0);
-    let d = put_reference(out, c, parent.0);
-    let e = put_field(out, d, count as u32);
-    let f = put(out, e, b' ');
-    let g = put(out, f, pick(active, b'1', b'0'));
-    put(out, g, b'\n')
+    page.put(b'B');
+    page.field(slot.0);
+    page.field(sequence.0);
+    page.reference(parent.0);
+    page.field(count as u32);
+    page.text(if active { b" 1" } else { b" 0" });
+    page.put(b'\n');
 }
 
 // A head: `H`, slot, tip, `C` for connected or `S` for stored, and anchor; `-` is none.
+#[tactic(auto, unfolding(crate::specs::Writing::head_line), using(crate::proofs::Printing::printing))]
 pub fn head_line(
-    out: &mut [u8],
-    at: usize,
+    page: &mut Page<'_>,
     slot: HeadSlot,
     tip: BlockSlot,
     connected: bool,
     anchor: BlockSlot,
-) -> usize
-    ensures { (out.new ≡ sets out.old at (head_line slot.0 tip.0 connected anchor.0))
-        × (result ≡ place (length out.old) at (length (head_line slot.0 tip.0 connected anchor.0))) }
+)
+    ensures { page.new ≡ printed page.old (head_line slot.0 tip.0 connected anchor.0) }
 {
-    let a = put(out, at, b'H');
-    let b = put_field(out, a, slot.0);
-    let c = put_reference(out, b, tip.0);
-    let d = put(out, c, b' ');
-    let e = put(out, d, pick(connected, b'C', b'S'));
-    let f = put_reference(out, e, anchor.0);
-    put(out, f, b'\n')
+    page.put(b'H');
+    page.field(slot.0);
+    page.reference(tip.0);
+    page.text(if connected { b" C" } else { b" S" });
+    page.reference(anchor.0);
+    page.put(b'\n');
 }

@@ -15,12 +15,15 @@ pub fn all_digits(bytes: &[u8]) -> bool
 pub fn read_number(bytes: &[u8], most: u64) -> Option<u64>
     ensures { result ≡ number most bytes.now }
 {
-    if bytes.is_empty() || !all_digits(bytes) {
+    if bytes.is_empty() {
         return None;
     }
     let mut n: u64 = 0;
     for byte in bytes {
-        let digit = byte.saturating_sub(b'0') as u64;
+        if !byte.is_ascii_digit() {
+            return None;
+        }
+        let digit = (*byte - b'0') as u64;
         n = n.checked_mul(10)?.checked_add(digit)?;
     }
     if n <= most { Some(n) } else { None }

@@ -1,4 +1,4 @@
--- Lines put one after the other are the listing, and a listing has at most 96 bytes a slot.
+-- The lines of slot after slot, and a listing has at most 96 bytes a slot.
 use mathlib.Core.Path.{◌≡◌}
 use mathlib.Core.Bool.{false}
 use mathlib.Core.List.{List}
@@ -9,16 +9,18 @@ use lib.ListN.{length, length-append}
 use Rattle.rules.specs.Records.{slots_of, occupied, used}
 use Rattle.rules.proofs.Splits.{split}
 use Rattle.trial_lines.specs.Writing.{place}
-use Rattle.trial_lines.proofs.Places.{Put, put-none, put_then}
+use Rattle.trial_lines.specs.Printing.{printed}
+use Rattle.trial_lines.specs.declared.page.Page.{Page}
+use Rattle.trial_lines.proofs.Printing.{printed-none, printed_then}
 use Rattle.trial_lines.proofs.Short.{block-short, head-short}
-use Rattle.trial_listing.specs.Listing.{block_shown, head_shown, lines_below, blocks_shown, heads_shown, listing_of}
+use Rattle.trial_listing.specs.Listing.{block_shown, head_shown, lines_below, listing_of}
 
 -- ---- one slot
 
-pub block_none : (parents sequences counts flags l : List ℕ) (slot at : ℕ) → occupied sequences slot ≡ false
-    → Put l at (block_shown parents sequences counts flags slot) l at
+pub block_none : (parents sequences counts flags : List ℕ) (slot : ℕ) (page : Page) → occupied sequences slot ≡ false
+    → printed page (block_shown parents sequences counts flags slot) ≡ page
 unfolding block_shown
-block_none parents sequences counts flags l slot at e = rw e (put-none l at)
+block_none parents sequences counts flags slot page e = rw e (printed-none page)
 
 block-shown-short : (parents sequences counts flags : List ℕ) (slot : ℕ) → length (block_shown parents sequences counts flags slot) ≤ 96
 unfolding block_shown
@@ -33,31 +35,24 @@ head-shown-short tips tails connected head =
 -- ---- slot after slot
 
 module _ (shown : ℕ → List ℕ) where
-  pub lines-first : (l : List ℕ) (at : ℕ) → Put l at (lines_below shown 0) l at
+  pub lines-first : (page : Page) → printed page (lines_below shown 0) ≡ page
   unfolding lines_below
-  lines-first l at = put-none l at
+  lines-first page = printed-none page
 
-  pub lines_next : (l m o : List ℕ) (at i r s : ℕ)
-      → Put l at (lines_below shown i) m r → Put m r (shown i) o s → Put l at (lines_below shown (i + 1)) o s
+  pub lines_next : (page : Page) (i : ℕ) → printed (printed page (lines_below shown i)) (shown i) ≡ printed page (lines_below shown (i + 1))
   unfolding lines_below
-  lines_next l m o at i r s e f = rw add-one (put_then l m o (lines_below shown i) (shown i) at r s e f)
+  lines_next page i = rw add-one (printed_then page (lines_below shown i) (shown i))
 
   lines-short : (n : ℕ) → ((i : ℕ) → length (shown i) ≤ 96) → length (lines_below shown n) ≤ 96 * n
   unfolding lines_below
   lines-short zero h = omega arith
   lines-short (suc n) h = omega (arith, length-append (lines_below shown n) (shown n), lines-short n h, h n)
 
+pub ruleset lines = (lines-first, lines_next)
+
 -- ---- the whole
 
 module _ (parents sequences counts flags tips tails connected : List ℕ) where
-  pub blocks-then-heads : (l m o : List ℕ) (at r s : ℕ)
-      → Put l at (blocks_shown parents sequences counts flags) m r
-      → Put m r (heads_shown tips tails connected) o s
-      → Put l at (listing_of parents sequences counts flags tips tails connected) o s
-  unfolding listing_of
-  blocks-then-heads l m o at r s b h =
-      put_then l m o (blocks_shown parents sequences counts flags) (heads_shown tips tails connected) at r s b h
-
   pub listing-short : length (listing_of parents sequences counts flags tips tails connected) ≤ 96 * (length sequences + length tips)
   unfolding listing_of slots_of
   listing-short =

@@ -1,5 +1,4 @@
 pub mod Chunks
-pub mod Counted
 pub mod Pieces
 pub mod Room
 pub mod Told

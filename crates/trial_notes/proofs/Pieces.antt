@@ -1,21 +1,14 @@
--- The pieces of a note, and how long it is.
+-- How long a note is.
 use Rattle.std.specs.Prelude.{Option, Some, None}
-use mathlib.Core.List.{List, [], ◌∷◌, flatten}
 use Prim.Native.Nat.{ℕ, ◌≤◌}
 use native.Mathlib.Omega.{arith}
 use lib.ListN.{length, length-append}
 use Rattle.trial_lines.specs.Text.{bytes_from, bytes}
 use Rattle.trial_lines.specs.Writing.{digits}
-use Rattle.trial_lines.proofs.Places.{Put, Puts, puts-put}
 use Rattle.trial_lines.proofs.Short.{digits-short}
 use Rattle.trial_notes.specs.Texts.{reason_text, note_text}
 use Rattle.trial_notes.specs.declared.Reason.{Reason}
 use Rattle.trial_notes.specs.declared.Reason.TheVariants.{TooLong, Empty, CarriageReturn, SpaceFirst, SpaceLast, SpaceTwice, NoLetter, LowerLetter, FieldMissing, FieldExtra, NoNumber, WordTooLarge, TimeTooLarge, NoHash, UpperHash}
-
-pub note-pieces : (l m : List ℕ) (at r number : ℕ) (why : Reason)
-    → Puts l at (bytes "line " ∷ digits number ∷ bytes ": " ∷ reason_text why ∷ (10 ∷ []) ∷ []) m r → Put l at (note_text number (Some why)) m r
-unfolding note_text flatten
-note-pieces l m at r number why p = puts-put l m at r _ p
 
 reason-short : (why : Reason) → length (reason_text why) ≤ 48
 unfolding bytes_from bytes reason_text

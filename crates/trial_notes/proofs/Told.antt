@@ -17,7 +17,7 @@ use Rattle.rules.specs.declared.BlockSlot.{BlockSlot}
 use Rattle.trial_lines.specs.declared.Line.{Line}
 use Rattle.trial_lines.specs.declared.Line.TheVariants.{Fresh, Admit, Promote, Remove, Under, Timer, Restart}
 use Rattle.trial_lines.proofs.Bytes.{number-empty, number-not}
-use Rattle.trial_notes.specs.Faults.{found, number_fault, word_fault, time_fault, hash_reason, hash_fault, inner, last, fresh_fault, admit_fault, timer_fault, screen_fault, letter_fault, fields_fault, last_byte, fault_of}
+use Rattle.trial_notes.specs.Faults.{found, number_fault, word_fault, time_fault, hash_reason, hash_fault, inner, last, fresh_fault, admit_fault, timer_fault, screen_fault, letter_reason, fields_fault, last_byte, fault_of}
 use Rattle.trial_notes.specs.Notes.{begun_fault}
 use Rattle.trial_notes.specs.declared.Reason.{Reason}
 
@@ -159,7 +159,7 @@ screen-told line =
     (λ e. split (eqb (get_or line 2 0) 32) (λ f. rw (e, f)) (λ f. rw (e, f)))
 
 fields_told : (line : List ℕ) → is_none (fields_fault line) ≡ is_some (parse line)
-unfolding fields_fault letter_fault parse
+unfolding fields_fault letter_reason parse
 fields_told line =
     split (eqb (letter line) 78)
     (λ e. rw e (fresh-told (rest line)))

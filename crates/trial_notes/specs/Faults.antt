@@ -75,8 +75,8 @@ screen_fault line =
 unfoldable pub is_letter : (byte : ℕ) → Bool
 is_letter b = list_any (λ letter. eqb letter b) (78 ∷ 65 ∷ 80 ∷ 68 ∷ 85 ∷ 86 ∷ 84 ∷ 82 ∷ [])
 
-unfoldable pub letter_fault : (byte : ℕ) → Option Reason
-letter_fault b = Some (if is_letter (b - 32) then LowerLetter else NoLetter)
+unfoldable pub letter_reason : (byte : ℕ) → Reason
+letter_reason b = if is_letter (b - 32) then LowerLetter else NoLetter
 
 unfoldable pub fields_fault : (line : List ℕ) → Option Reason
 fields_fault line =
@@ -88,7 +88,7 @@ fields_fault line =
     else if eqb (letter line) 86 then screen_fault line
     else if eqb (letter line) 84 then timer_fault (rest line)
     else if eqb (letter line) 82 then last time_fault (rest line)
-    else letter_fault (letter line)
+    else Some (letter_reason (letter line))
 
 -- ---- the line: a carriage return is 13, a space 32
 

@@ -1,4 +1,4 @@
 pub mod Faults
-pub mod Held
+pub mod Left
 pub mod Notes
 pub mod Texts

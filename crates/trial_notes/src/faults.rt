@@ -1,12 +1,13 @@
 // The first fault of a line: of the line as a whole, then of its letter, then field after field.
-ghost use Rattle.std.specs.Prelude.{◌≡◌};
-ghost use Rattle.trial_notes.specs.Faults.{number_fault, lowered as lowered_rule, hash_reason, hash_fault, inner, last, is_letter, letter_fault, fresh_fault, admit_fault, timer_fault, screen_fault, fields_fault, fault_of};
+ghost use Rattle.std.specs.Prelude.{◌≡◌, ◌≢◌, ◌<◌, ◌≤◌, get_or, length, Some};
+ghost use Rattle.std.specs.Fn.{FnReturnsAt};
+ghost use Rattle.trial_lines.specs.Reading.{field_length, first as first_rule};
+ghost use Rattle.trial_notes.specs.declared.Reason.TheVariants.{SpaceTwice, FieldExtra};
+ghost use Rattle.trial_notes.specs.Faults.{number_fault, word_fault, time_fault, lowered as lowered_rule, hash_reason, hash_fault, is_letter, letter_reason, fresh_fault, admit_fault, timer_fault, screen_fault, fields_fault, fault_of};
 
 use crate::Reason;
 use trial_lines::fields::{field_length, first, letter, rest};
 use trial_lines::numbers::{all_digits, read_hash, read_number};
-
-const WORD_MOST: u64 = u32::MAX as u64;
 
 #[tactic(auto, unfolding(crate::specs::Faults::number_fault))]
 fn number_fault(field: &[u8], most: u64, larger: Reason) -> Option<Reason>
@@ -60,31 +61,36 @@ fn hash_fault(field: &[u8]) -> Option<Reason>
     }
 }
 
-// A number at the start of what is left of a line.
-#[tactic(auto, unfolding(crate::specs::Faults::inner))]
-fn number_inner(left: &[u8], most: u64, larger: Reason) -> Option<Reason>
-    ensures { result ≡ inner (number_fault most larger) left.now }
+fn word_fault(field: &[u8]) -> Option<Reason>
+    ensures { result ≡ word_fault field.now }
+{
+    number_fault(field, u32::MAX as u64, Reason::WordTooLarge)
+}
+
+fn time_fault(field: &[u8]) -> Option<Reason>
+    ensures { result ≡ time_fault field.now }
+{
+    number_fault(field, u64::MAX, Reason::TimeTooLarge)
+}
+
+// A field at the start of what is left of a line, with others after it.
+fn inner<F: Fn(&[u8]) -> Option<Reason>>(left: &[u8], fault: F) -> Option<Reason>
+    requires { F.IsAlwaysCallable fault }
+    ensures space { get_or left.now 0 0 ≡ 32 → result ≡ Some SpaceTwice }
+    ensures field { get_or left.now 0 0 ≢ 32 → FnReturnsAt F.Fn fault (first_rule left.now) result }
 {
     if left.starts_with(b" ") {
         return Some(Reason::SpaceTwice);
     }
-    number_fault(first(left), most, larger)
+    fault(first(left))
 }
 
-#[tactic(auto, unfolding(crate::specs::Faults::inner))]
-fn hash_inner(left: &[u8]) -> Option<Reason>
-    ensures { result ≡ inner hash_fault left.now }
-{
-    if left.starts_with(b" ") {
-        return Some(Reason::SpaceTwice);
-    }
-    hash_fault(first(left))
-}
-
-// A number that is all that is left.
-#[tactic(auto, unfolding(crate::specs::Faults::last))]
-fn number_last(left: &[u8], most: u64, larger: Reason) -> Option<Reason>
-    ensures { result ≡ last (number_fault most larger) left.now }
+// A field that is all that is left.
+fn last<F: Fn(&[u8]) -> Option<Reason>>(left: &[u8], fault: F) -> Option<Reason>
+    requires { F.IsAlwaysCallable fault }
+    ensures space { get_or left.now 0 0 ≡ 32 → result ≡ Some SpaceTwice }
+    ensures extra { get_or left.now 0 0 ≢ 32 → field_length left.now < length left.now → result ≡ Some FieldExtra }
+    ensures field { get_or left.now 0 0 ≢ 32 → length left.now ≤ field_length left.now → FnReturnsAt F.Fn fault left.now result }
 {
     if left.starts_with(b" ") {
         return Some(Reason::SpaceTwice);
@@ -92,37 +98,37 @@ fn number_last(left: &[u8], most: u64, larger: Reason) -> Option<Reason>
     if field_length(left) < left.len() {
         return Some(Reason::FieldExtra);
     }
-    number_fault(left, most, larger)
+    fault(left)
 }
 
-#[tactic(auto, unfolding(crate::specs::Faults::fresh_fault))]
+#[tactic(auto, unfolding(crate::specs::Faults::fresh_fault, crate::specs::Faults::inner, crate::specs::Faults::last))]
 fn fresh_fault(fields: &[u8]) -> Option<Reason>
     ensures { result ≡ fresh_fault fields.now }
 {
-    let n = number_inner(fields, WORD_MOST, Reason::WordTooLarge);
-    let m = number_last(rest(fields), WORD_MOST, Reason::WordTooLarge);
+    let n = inner(fields, word_fault);
+    let m = last(rest(fields), word_fault);
     n.or(m)
 }
 
-#[tactic(auto, unfolding(crate::specs::Faults::admit_fault))]
+#[tactic(auto, unfolding(crate::specs::Faults::admit_fault, crate::specs::Faults::inner, crate::specs::Faults::last))]
 fn admit_fault(fields: &[u8]) -> Option<Reason>
     ensures { result ≡ admit_fault fields.now }
 {
     let hashes = rest(fields);
     let later = rest(hashes);
-    let sequence = number_inner(fields, WORD_MOST, Reason::WordTooLarge);
-    let hash = hash_inner(hashes);
-    let previous = hash_inner(later);
-    let arrival = number_last(rest(later), u64::MAX, Reason::TimeTooLarge);
+    let sequence = inner(fields, word_fault);
+    let hash = inner(hashes, hash_fault);
+    let previous = inner(later, hash_fault);
+    let arrival = last(rest(later), time_fault);
     sequence.or(hash.or(previous.or(arrival)))
 }
 
-#[tactic(auto, unfolding(crate::specs::Faults::timer_fault))]
+#[tactic(auto, unfolding(crate::specs::Faults::timer_fault, crate::specs::Faults::inner, crate::specs::Faults::last))]
 fn timer_fault(fields: &[u8]) -> Option<Reason>
     ensures { result ≡ timer_fault fields.now }
 {
-    let clock = number_inner(fields, u64::MAX, Reason::TimeTooLarge);
-    let retry = number_last(rest(fields), u64::MAX, Reason::TimeTooLarge);
+    let clock = inner(fields, time_fault);
+    let retry = last(rest(fields), time_fault);
     clock.or(retry)
 }
 
@@ -148,18 +154,18 @@ fn is_letter(byte: u8) -> bool
 }
 
 // What has no such letter.
-#[tactic(auto, unfolding(crate::specs::Faults::letter_fault))]
-fn letter_fault(byte: u8) -> Option<Reason>
-    ensures { result ≡ letter_fault byte }
+#[tactic(auto, unfolding(crate::specs::Faults::letter_reason))]
+fn letter_reason(byte: u8) -> Reason
+    ensures { result ≡ letter_reason byte }
 {
     if is_letter(byte.saturating_sub(32)) {
-        Some(Reason::LowerLetter)
+        Reason::LowerLetter
     } else {
-        Some(Reason::NoLetter)
+        Reason::NoLetter
     }
 }
 
-#[tactic(auto, unfolding(crate::specs::Faults::fields_fault))]
+#[tactic(auto, unfolding(crate::specs::Faults::fields_fault, crate::specs::Faults::inner, crate::specs::Faults::last))]
 fn fields_fault(line: &[u8]) -> Option<Reason>
     ensures { result ≡ fields_fault line.now }
 {
@@ -167,11 +173,11 @@ fn fields_fault(line: &[u8]) -> Option<Reason>
     match letter(line) {
         b'N' => fresh_fault(fields),
         b'A' => admit_fault(fields),
-        b'P' | b'D' | b'U' => number_last(fields, WORD_MOST, Reason::WordTooLarge),
+        b'P' | b'D' | b'U' => last(fields, word_fault),
         b'V' => screen_fault(line),
         b'T' => timer_fault(fields),
-        b'R' => number_last(fields, u64::MAX, Reason::TimeTooLarge),
-        kind => letter_fault(kind),
+        b'R' => last(fields, time_fault),
+        kind => Some(letter_reason(kind)),
     }
 }
 

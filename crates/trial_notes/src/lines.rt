@@ -1,20 +1,21 @@
-// Bytes joined to lines, and lines noted.
-ghost use Rattle.std.specs.Prelude.{◌≡◌, leb, length, take, if◌then◌else◌};
-ghost use Rattle.trial_lines.specs.Begun.{so_far, too_long};
-ghost use Rattle.trial_notes.specs.Notes.{begun_fault, next_number, noted_byte, noted};
-ghost use Rattle.trial_notes.specs.Held.{held_of, count_in, held_byte, held_fed, Comes, Lasts};
+// Lines noted.
+ghost use Rattle.std.specs.Prelude.{◌≡◌};
+ghost use Rattle.trial_lines.specs.Printing.{printed};
+ghost use Rattle.trial_notes.specs.declared.Noting.{Noting as NotingRule};
+ghost use Rattle.trial_notes.specs.Notes.{begun_fault, next_number, noted_byte, last_noted};
 
 use crate::faults::fault;
 use crate::text::put_note;
-use crate::{Noted, Noting, Reason};
-use trial_lines::begun::join;
+use crate::{Noting, Reason};
+use trial_lines::begun::Begun;
+use trial_lines::chunks::TakesBytes;
+use trial_lines::page::Page;
 
 #[tactic(auto, unfolding(crate::specs::Notes::begun_fault))]
-fn fault_of(line: &[u8], begun: usize) -> Option<Reason>
-    ensures { result
-        ≡ begun_fault (if leb begun (length line.now) then so_far (take begun line.now) else too_long) }
+fn fault_of(line: &Begun) -> Option<Reason>
+    ensures { result ≡ begun_fault line.now }
 {
-    match line.get(..begun) {
+    match line.bytes() {
         Some(bytes) => fault(bytes),
         None => Some(Reason::TooLong),
     }
@@ -26,51 +27,31 @@ fn next_number(number: u64) -> u64
     number.saturating_add(1)
 }
 
-// The byte 10 ends a line; any other joins it.
-fn take_byte(line: &mut [u8; 128], noting: Noting, byte: u8, out: &mut [u8], at: usize) -> Noted
-    ensures { Comes (held_byte (held_of line.old noting) byte)
-        (noted_byte (count_in (held_of line.old noting)) byte) out.old at
-        (held_of line.new result.noting) out.new result.at }
-{
-    if byte == b'\n' {
-        let why = fault_of(line, noting.begun);
-        let end = put_note(out, at, noting.number, why);
-        let number = next_number(noting.number);
-        return Noted {
-            noting: Noting { number, begun: 0 },
-            at: end,
-        };
-    }
-    let begun = join(line, noting.begun, byte);
-    Noted {
-        noting: Noting {
-            number: noting.number,
-            begun,
-        },
-        at,
+impl TakesBytes for Noting {
+    ghost State = { NotingRule };
+
+    ghost shown = { λ z. z };
+
+    ghost one = { noted_byte };
+
+    // A byte that ends a line has it noted.
+    #[tactic(auto, unfolding(crate::specs::Notes::line_noted, crate::specs::Notes::noted_byte), using(trial_lines::proofs::Printing::printing))]
+    fn take_byte(&mut self, byte: u8, page: &mut Page<'_>) {
+        if let Some(line) = self.begun.take(byte) {
+            put_note(page, self.number, fault_of(&line));
+            self.number = next_number(self.number);
+        }
     }
 }
 
-// One byte after the other.
-pub fn take_bytes(line: &mut [u8; 128], noting: Noting, bytes: &[u8], out: &mut [u8]) -> Noted
-    ensures { Comes (held_fed (held_of line.old noting) bytes.now)
-        (noted (count_in (held_of line.old noting)) bytes.now) out.old 0
-        (held_of line.new result.noting) out.new result.at }
-{
-    let mut noted = Noted { noting, at: 0 };
-    for byte in bytes {
-        noted = take_byte(line, noted.noting, *byte, out, noted.at);
+impl Noting {
+    // The last line may lack its end.
+    #[tactic(auto, unfolding(crate::specs::Notes::line_noted, crate::specs::Notes::last_noted), using(trial_lines::proofs::Printing::printing))]
+    pub(crate) fn end_last(&self, page: &mut Page<'_>)
+        ensures { page.new ≡ printed page.old (last_noted self.now) }
+    {
+        if self.begun.has_begun() {
+            put_note(page, self.number, fault_of(&self.begun));
+        }
     }
-    noted
-}
-
-// The last line may lack its end.
-pub fn end_last(line: &[u8; 128], noting: Noting, out: &mut [u8]) -> usize
-    ensures { Lasts (count_in (held_of line.now noting)) out.old out.new result }
-{
-    if noting.begun == 0 {
-        return 0;
-    }
-    let why = fault_of(line, noting.begun);
-    put_note(out, 0, noting.number, why)
 }

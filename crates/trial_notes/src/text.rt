@@ -1,11 +1,10 @@
-// The notes as text in a lent buffer, from a place on. What is returned is the place after it.
-ghost use Rattle.std.specs.Prelude.{◌≡◌, length};
-ghost use Rattle.std.proofs.lemmas.List.Edits.{sets};
-ghost use Rattle.trial_lines.specs.Writing.{place};
+// The notes as text on a page.
+ghost use Rattle.std.specs.Prelude.{◌≡◌};
+ghost use Rattle.trial_lines.specs.Printing.{printed};
 ghost use Rattle.trial_notes.specs.Texts.{reason_text, note_text};
 
 use crate::Reason;
-use trial_lines::text::{put, put_number, put_text};
+use trial_lines::page::Page;
 
 #[tactic(auto, unfolding(trial_lines::specs::Text::bytes_from, trial_lines::specs::Text::bytes, crate::specs::Texts::reason_text))]
 fn reason_text(why: Reason) -> &'static [u8]
@@ -31,18 +30,15 @@ fn reason_text(why: Reason) -> &'static [u8]
 }
 
 // `line`, its number, a colon and the reason; nothing where there is no fault.
-pub fn put_note(out: &mut [u8], at: usize, number: u64, fault: Option<Reason>) -> usize
-    ensures { (out.new ≡ sets out.old at (note_text number fault))
-        × (result ≡ place (length out.old) at (length (note_text number fault))) }
+#[tactic(auto, unfolding(trial_lines::specs::Text::bytes_from, trial_lines::specs::Text::bytes, crate::specs::Texts::note_text), using(trial_lines::proofs::Printing::printing))]
+pub fn put_note(page: &mut Page<'_>, number: u64, fault: Option<Reason>)
+    ensures { page.new ≡ printed page.old (note_text number fault) }
 {
-    match fault {
-        None => at,
-        Some(why) => {
-            let a = put_text(out, at, b"line ");
-            let b = put_number(out, a, number);
-            let c = put_text(out, b, b": ");
-            let d = put_text(out, c, reason_text(why));
-            put(out, d, b'\n')
-        }
+    if let Some(why) = fault {
+        page.text(b"line ");
+        page.number(number);
+        page.text(b": ");
+        page.text(reason_text(why));
+        page.put(b'\n');
     }
 }

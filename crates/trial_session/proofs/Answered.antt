@@ -2,25 +2,21 @@
 use Rattle.std.specs.Prelude.{if◌then◌else◌, Option, Some, None}
 use mathlib.Core.Path.{◌≡◌, refl, sym, ap, ◌∙◌}
 use mathlib.Core.Bool.{Bool, true, false}
-use mathlib.Core.List.{List, []}
+use mathlib.Core.List.{List}
 use Prim.Native.Nat.{ℕ}
 use native.Mathlib.Omega.{arith}
-use lib.Dec.{leb}
-use lib.ListN.{length, take}
-use lib.Seq.{sets}
 use Rattle.rules.specs.Records.{Tables}
 use Rattle.rules.specs.Answers.{Answer, refused, done}
 use Rattle.rules.specs.Calls.{State, Stepped, state_of, answering, refuse, shaped, fresh_state, fresh, blocks_in, heads_in}
 use Rattle.rules.proofs.Splits.{split}
-use Rattle.trial_lines.specs.Begun.{line_most, so_far, too_long, line_begun, begun_of}
-use Rattle.trial_lines.specs.Writing.{place}
+use Rattle.trial_lines.specs.Printing.{printed}
 use Rattle.trial_lines.specs.declared.Line.{Line}
+use Rattle.trial_lines.specs.declared.page.Page.{Page}
 use Rattle.trial_lines.specs.declared.Line.TheVariants.{Fresh, Admit, Promote, Remove, Under, Screen, Timer, Restart}
-use Rattle.trial_lines.proofs.Places.{Put}
 use Rattle.trial_calls.specs.Calling.{called, line_said, is_refused, renews}
 use Rattle.trial_fronts.specs.Fronts.{array_blocks, array_heads, Sized, front, behind, before, TellsFront}
-use Rattle.trial_session.specs.Session.{Session, unless_refused, line_done, line_fed, ended}
-use Rattle.trial_session.specs.Held.{Held, held_with, state_in, begun_in, session_in, asked, sizes_after, trial_after, held_line, held_ended, Comes, EndsLine}
+use Rattle.trial_session.specs.Session.{unless_refused, line_done}
+use Rattle.trial_session.specs.Held.{Held, held_with, state_in, asked, sizes_after, trial_after, held_line, DoesLine}
 use Rattle.trial_session.specs.declared.Trial.{Trial}
 use Rattle.trial_session.proofs.Sized.{sized-front, sized_fresh, front-shape, shaped-within}
 use Rattle.trial_session.proofs.Laid.{laid_same, laid-is}
@@ -58,61 +54,53 @@ front-refused k j t a z e = let q : shaped (front k j t) ≡ false = front-shape
 
 -- ---- a line
 
--- a session whose next line has not begun
-abbrev session_of : State → Session
-session_of s = record { state = s; begun = so_far [] }
-
 -- what a line does to what is held, where it leaves arrays u and a trial z
-abbrev Does : (h : Held) (line : Option Line) (out : List ℕ) (at : ℕ) (u : Tables) (z : Trial) (written : List ℕ) (next : ℕ) → Type 0
-Does h line out at u z written next = Comes (held_line h line) (line_fed (state_in h) line) out at (held_with u h.line z) written next
+abbrev Does : (h : Held) (line : Option Line) (page : Page) (u : Tables) (z : Trial) (next : Page) → Type 0
+Does h line page u z next = DoesLine h line page (held_with u z h.begun) next
 
-module _ (h : Held) (u : Tables) (out written : List ℕ) (at next b : ℕ) where
+module _ (h : Held) (u : Tables) (page next : Page) (b : ℕ) where
   -- where its sizes are those of a and the answer on its front is d
   comes : (line : Option Line) (a : Trial) (d : Stepped) → line_done (state_in h) line ≡ d
       → trial_after h.trial line d ≡ sizes_after a b
       → state_of (front a.n a.m u) b ≡ d.after → behind a.n a.m u ≡ behind a.n a.m h.arrays
-      → Put out at (line_said line d.answer) written next → Does h line out at u (sizes_after a b) written next
-  unfolding held_line line_fed sizes_after state_in begun_of begun_in session_in
-  comes line a d is after left rest (text, end) =
+      → next ≡ printed page (line_said line d.answer) → Does h line page u (sizes_after a b) next
+  unfolding held_line sizes_after state_in
+  comes line a d is after left rest text =
       let f : front a.n a.m u ≡ d.after.tables = ap (λ (s : State). s.tables) left in
       let l = laid-is a.n a.m h.arrays u d.after.tables f rest in
-      let laid : Stepped → Trial → Held = λ x y. held_with (before x.after.tables (behind y.n y.m h.arrays)) h.line y in
+      let laid : Stepped → Trial → Held = λ x y. held_with (before x.after.tables (behind y.n y.m h.arrays)) y h.begun in
       record {
-        held = ap (λ (x : Tables). held_with x h.line (sizes_after a b)) l ∙ ap (laid d) (sym after)
+        held = ap (λ (x : Tables). held_with x (sizes_after a b) h.begun) l ∙ ap (laid d) (sym after)
             ∙ ap (λ (x : Stepped). laid x (trial_after h.trial line x)) (sym is);
-        session = ap (λ (x : State). session_of x) left ∙ ap (λ (x : Stepped). session_of x.after) (sym is);
-        text = text ∙ ap (λ (x : Stepped). sets out at (line_said line x.answer)) (sym is);
-        end = end ∙ ap (λ (x : Stepped). place (length out) at (length (line_said line x.answer))) (sym is);
+        state = left ∙ ap (λ (x : Stepped). x.after) (sym is);
+        said = text ∙ ap (λ (x : Stepped). printed page (line_said line x.answer)) (sym is);
       }
 
   -- a call on the tables that are there
   plain : (line : Option Line) (renewed : Bool) → line_done (state_in h) line ≡ called (state_in h) line
       → ((answer : Answer) → renews line answer ≡ false)
-      → TellsFront h.trial.n h.trial.m h.arrays h.trial.active.0 line out at u b renewed written next
-      → Does h line out at u (sizes_after (if renewed then h.trial else h.trial) b) written next
+      → TellsFront h.trial.n h.trial.m h.arrays h.trial.active.0 line page u b renewed next
+      → Does h line page u (sizes_after (if renewed then h.trial else h.trial) b) next
   unfolding state_in trial_after
   plain line renewed is never (tell, rest) =
       let d = called (state_in h) line in
       let r : renewed ≡ false = tell.anew ∙ never d.answer in
       let head : b ≡ d.after.active_head = ap (λ (s : State). s.active_head) tell.left in
       let after : trial_after h.trial line d ≡ sizes_after h.trial b = rw (never d.answer) (ap (sizes_after h.trial) (sym head)) in
-      rw r (comes line h.trial d is after tell.left rest (tell.text, tell.end))
+      rw r (comes line h.trial d is after tell.left rest tell.text)
 
   -- new tables, or the old ones where they are refused
   anew : (n m : ℕ) (renewed : Bool) → Sized array_blocks array_heads h.arrays
-      → TellsFront n m h.arrays h.trial.active.0 (Some (Fresh n m)) out at u b renewed written next
-      → Does h (Some (Fresh n m)) out at u (sizes_after (if renewed then asked h.trial (Some (Fresh n m)) else h.trial) b) written next
+      → TellsFront n m h.arrays h.trial.active.0 (Some (Fresh n m)) page u b renewed next
+      → Does h (Some (Fresh n m)) page u (sizes_after (if renewed then asked h.trial (Some (Fresh n m)) else h.trial) b) next
   unfolding state_in trial_after called line_done unless_refused is_refused renews asked
   anew n m renewed sized (tell, rest) =
       let t = h.arrays in
       let z = h.trial in
       let line = Some (Fresh n m) in
       let said : Stepped → List ℕ = λ x. line_said line x.answer in
-      let told : (d : Stepped) → fresh (state_of (front n m t) z.active.0) ≡ d → Put out at (said d) written next =
-      λ d is. (
-        tell.text ∙ ap (λ (x : Stepped). sets out at (said x)) is,
-        tell.end ∙ ap (λ (x : Stepped). place (length out) at (length (said x))) is,
-      ) in
+      let told : (d : Stepped) → fresh (state_of (front n m t) z.active.0) ≡ d → next ≡ printed page (said d) =
+      λ d is. tell.text ∙ ap (λ (x : Stepped). printed page (said x)) is in
       split (shaped (fresh_state n m).tables)
       (λ e. let d = answering (fresh_state n m) done in
       let is : fresh (state_of (front n m t) z.active.0) ≡ d = front-accepted n m t z.active.0 sized e in
@@ -134,8 +122,8 @@ module _ (h : Held) (u : Tables) (out written : List ℕ) (at next b : ℕ) wher
   -- ---- every line
 
   line-comes : (line : Option Line) (renewed : Bool) → Sized array_blocks array_heads h.arrays
-      → TellsFront (asked h.trial line).n (asked h.trial line).m h.arrays h.trial.active.0 line out at u b renewed written next
-      → Does h line out at u (sizes_after (if renewed then asked h.trial line else h.trial) b) written next
+      → TellsFront (asked h.trial line).n (asked h.trial line).m h.arrays h.trial.active.0 line page u b renewed next
+      → Does h line page u (sizes_after (if renewed then asked h.trial line else h.trial) b) next
   unfolding asked line_done renews
   line-comes (Some (Fresh n m)) renewed sized tells = anew n m renewed sized tells
   line-comes (Some (Admit sequence hash previous arrival)) renewed sized tells =
@@ -148,13 +136,8 @@ module _ (h : Held) (u : Tables) (out written : List ℕ) (at next b : ℕ) wher
   line-comes (Some (Restart now)) renewed sized tells = plain (Some (Restart now)) renewed refl (λ a. refl) tells
   line-comes None renewed sized tells = plain None renewed refl (λ a. refl) tells
 
-  pub line-ends : (sizes z : Trial) (line : Option Line) (renewed : Bool)
-      → TellsFront sizes.n sizes.m h.arrays h.trial.active.0 line out at u b renewed written next
+  pub line-does : (sizes z : Trial) (line : Option Line) (renewed : Bool)
+      → TellsFront sizes.n sizes.m h.arrays h.trial.active.0 line page u b renewed next
       → sizes ≡ asked h.trial line → z ≡ sizes_after (if renewed then sizes else h.trial) b → Sized array_blocks array_heads h.arrays
-      → line ≡ line_begun (if leb h.trial.begun (length h.line) then so_far (take h.trial.begun h.line) else too_long)
-      → length h.line ≡ line_most → EndsLine h out at (held_with u h.line z) written next
-  unfolding held_ended ended session_in begun_in begun_of
-  line-ends sizes z line renewed tells asks after sized whole long =
-      let w : line ≡ line_begun (if leb h.trial.begun line_most then so_far (take h.trial.begun h.line) else too_long) = rw long at whole in
-      let does : Does h line out at u z written next = rw (after, asks) (line-comes line renewed sized (rw asks at tells)) in
-      rw w at does
+      → Does h line page u z next
+  line-does sizes z line renewed tells asks after sized = rw (after, asks) (line-comes line renewed sized (rw asks at tells))

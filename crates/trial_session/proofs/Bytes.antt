@@ -1,42 +1,51 @@
 -- A byte that comes, and a last line: what the arrays then hold is what the session then is.
-use mathlib.Core.Path.{◌≡◌, refl, ap}
+use mathlib.Core.Path.{◌≡◌, refl, sym, ap}
 use mathlib.Core.Logic.{◌≢◌}
-use mathlib.Core.List.{List}
-use Prim.Native.Nat.{ℕ, ◌+◌, min}
+use mathlib.Core.Bool.{true, false}
+use mathlib.Core.List.{[]}
+use Prim.Native.Nat.{ℕ}
 use borrow.Author.Tests.{eq-eqb, ne_eqb}
-use lib.ListN.{length, set}
-use Rattle.trial_lines.specs.Begun.{line_most, Begun, longer, begun_of}
-use Rattle.trial_lines.proofs.Joined.{begun-joins, some-begun, none-begun}
-use Rattle.trial_lines.proofs.Places.{put-none}
-use Rattle.trial_session.specs.Session.{fed_byte, last_ended}
-use Rattle.trial_session.specs.Held.{Held, held_with, state_in, begun_in, session_in, held_joined, held_byte, held_closed, EndsLine, TakesByte, EndsLast}
+use Rattle.rules.specs.Calls.{State}
+use Rattle.trial_lines.specs.Begun.{so_far, has_begun, line_begun}
+use Rattle.trial_lines.specs.Fed.{Fed, Leaves}
+use Rattle.trial_lines.specs.declared.page.Page.{Page}
+use Rattle.trial_lines.proofs.Printing.{printed-none}
+use Rattle.trial_session.specs.Session.{Session, line_fed, ended, fed_byte, last_ended}
+use Rattle.trial_session.specs.Held.{Held, held_with, state_in, session_in, held_line, held_joined, held_ended, held_byte, held_closed, kept, kept_byte, kept_closed, DoesLine}
 
-pub byte-joins : (h : Held) (more : List ℕ) (byte have at : ℕ) (out : List ℕ)
-    → (more ≡ set h.line h.trial.begun byte) × (have ≡ min (h.trial.begun + 1) (length h.line + 1)) → byte ≢ 10 → length h.line ≡ line_most
-    → TakesByte h byte out at (held_with h.arrays more (record h.trial { begun = have })) out at
-unfolding held_byte held_joined fed_byte session_in state_in begun_in
-byte-joins h more byte have at out (m, k) ne e =
-    let q = ne_eqb byte 10 ne in
-    let k' : have ≡ min (h.trial.begun + 1) (line_most + 1) = rw e at k in
-    let b : begun_of more have ≡ longer (begun_of h.line h.trial.begun) byte = rw (m, k') (begun-joins h.line h.trial.begun byte e) in
-    record {
-      held = rw (q, m, k');
-      session = rw q (ap (λ (x : Begun). record { state = state_in h; begun = x }) b);
-      text = rw q;
-      end = rw q (put-none out at).1;
-    }
+-- a session whose next line has not begun
+abbrev session_of : State → Session
+session_of s = record { state = s; begun = so_far [] }
 
-pub byte-ends : (h g : Held) (out written : List ℕ) (at next byte : ℕ)
-    → EndsLine h out at g written next → byte ≡ 10 → TakesByte h byte out at g written next
-unfolding held_byte fed_byte
-byte-ends h g out written at next byte c e = rw (eq-eqb byte 10 e) c
+-- what is held once a line that has come is taken
+abbrev taken : Held → Held
+taken h = held_with h.arrays h.trial (so_far [])
 
-pub last-ends : (h g : Held) (out written : List ℕ) (next : ℕ)
-    → EndsLine h out 0 g written next → h.trial.begun ≢ 0 → length h.line ≡ line_most → EndsLast h out g written next
-unfolding held_closed last_ended session_in begun_in
-last-ends h g out written next c ne e = rw (some-begun h.line h.trial.begun ne e) c
+-- the end of a line
+abbrev kept_ended : Held → Fed (Held × Session)
+kept_ended h = let f = ended (session_in h) in record { after = (held_ended h, f.after); said = f.said }
 
-pub none-ends : (h : Held) (out : List ℕ) → h.trial.begun ≡ 0 → EndsLast h out h out 0
-unfolding held_closed last_ended session_in begun_in
-none-ends h out e =
-    rw (none-begun h.line h.trial.begun e) (record { held = refl; session = refl; text = refl; end = (put-none out 0).1 })
+line-ends : (h g : Held) (page next : Page) → DoesLine (taken h) (line_begun h.begun) page g next → Leaves (kept_ended h) page (kept g) next
+unfolding held_line held_ended ended session_in line_fed state_in
+line-ends h g page next d =
+    let b : g.begun ≡ so_far [] = ap (λ (x : Held). x.begun) d.held in
+    let s : session_in g ≡ (ended (session_in h)).after = rw b (ap session_of d.state) in
+    record { after = λ i. (d.held i, s i); said = d.said }
+
+pub byte-ends : (h g : Held) (page next : Page) (byte : ℕ) → byte ≡ 10 → DoesLine (taken h) (line_begun h.begun) page g next
+    → Leaves (kept_byte (kept h) byte) page (kept g) next
+unfolding held_byte fed_byte kept_byte
+byte-ends h g page next byte b d = rw (eq-eqb byte 10 b) (line-ends h g page next d)
+
+pub byte-joins : (h : Held) (page : Page) (byte : ℕ) → byte ≢ 10 → Leaves (kept_byte (kept h) byte) page (kept (held_joined h byte)) page
+unfolding held_byte fed_byte session_in state_in kept_byte
+byte-joins h page byte ne = let q = ne_eqb byte 10 ne in record { after = rw q; said = rw q (sym (printed-none page)) }
+
+pub last-ends : (h g : Held) (page next : Page) → has_begun h.begun ≡ true → DoesLine (taken h) (line_begun h.begun) page g next
+    → Leaves (kept_closed (kept h)) page (kept g) next
+unfolding held_closed last_ended session_in kept_closed
+last-ends h g page next b d = rw b (line-ends h g page next d)
+
+pub none-ends : (h : Held) (page : Page) → has_begun h.begun ≡ false → Leaves (kept_closed (kept h)) page (kept h) page
+unfolding held_closed last_ended session_in kept_closed
+none-ends h page b = rw b (record { after = refl; said = sym (printed-none page) })

@@ -2,28 +2,33 @@
 -- end is another byte; one that has not prints `?`. So it is at most `byte_most` for each byte that comes, and for what was kept in
 -- reserve. At the end it is 96 more for each slot.
 use Rattle.std.specs.Prelude.{if◌then◌else◌, Option, Some, None}
-use mathlib.Core.Path.{◌≡◌, refl}
-use mathlib.Core.List.{List, [], ◌∷◌}
+use Rattle.std.specs.Borrow.{MutBor}
+use mathlib.Core.Path.{◌≡◌, refl, ap, ◌∙◌}
+use mathlib.Core.List.{List, [], ◌∷◌, ◌++◌}
 use Prim.Native.Nat.{ℕ, ◌+◌, ◌*◌, ◌≤◌}
 use native.Mathlib.Omega.{arith}
 use lib.Dec.{eqb}
-use lib.ListN.{length, get_or, take, length-append, length-take}
+use lib.ListN.{length, get_or, take, drop, length-append, length-take}
 use Rattle.rules.specs.Answers.{Answer, refused, done, slot, freed, hangs, shown, request, none_due, due_at, never_due}
 use Rattle.rules.specs.Calls.{State, max_heads, shaped, fresh_state, fresh}
 use Rattle.rules.proofs.Splits.{split}
 use Rattle.trial_lines.specs.Begun.{Begun, so_far, too_long, longer, has_begun, line_begun, chunk_most}
+use Rattle.trial_lines.specs.Fed.{fed as fed_by, Leaves}
+use Rattle.trial_lines.specs.Printing.{page_at}
 use Rattle.trial_lines.specs.Reading.{field_length, parse}
 use Rattle.trial_lines.specs.Writing.{letter_line, none_due_line}
 use Rattle.trial_lines.specs.Said.{said}
 use Rattle.trial_lines.specs.declared.Line.{Line}
 use Rattle.trial_lines.specs.declared.Line.TheVariants.{Fresh, Admit, Promote, Remove, Under, Screen, Timer, Restart}
+use Rattle.trial_lines.specs.declared.page.Page.{Page}
+use Rattle.trial_lines.proofs.Printing.{printed-front}
 use Rattle.trial_lines.proofs.Short.{number_short, hanging-short, rows_short, request-short}
 use Rattle.trial_calls.specs.Calling.{called, done_said, line_said, is_refused}
 use Rattle.trial_calls.proofs.Shown.{rows_shown, called-few}
 use Rattle.trial_listing.proofs.Listed.{listing-short}
 use Rattle.trial_session.specs.Session.{Session, unless_refused, line_done, line_fed, ended, fed_byte, fed, last_ended, tables_listed, closing}
-use Rattle.trial_session.specs.Held.{Held, session_in, held_fed, print_most, byte_most, room, Comes, Fills}
-use Rattle.trial_session.proofs.Chunks.{fills}
+use Rattle.trial_session.specs.Held.{Held, session_in, kept, kept_byte, print_most, byte_most, room, Feeds}
+use Rattle.trial_session.proofs.Chunks.{kept_fed}
 
 said-short : (when_done : List ℕ) (answer : Answer) → length when_done ≤ 96 → rows_shown answer ≤ max_heads
     → length (said when_done answer) ≤ print_most
@@ -102,7 +107,7 @@ begun-short s (so_far (byte ∷ bytes)) = omega (arith, line-short s (line_begun
 begun-short s too_long = omega (arith, line-short s (line_begun too_long))
 
 byte-short : (s : Session) (byte : ℕ)
-    → length (fed_byte s byte).said + reserve (fed_byte s byte).session.begun ≤ byte_most + reserve s.begun
+    → length (fed_byte s byte).said + reserve (fed_byte s byte).after.begun ≤ byte_most + reserve s.begun
 unfolding line_fed ended fed_byte
 byte-short s byte =
     split (eqb byte 10)
@@ -110,12 +115,12 @@ byte-short s byte =
     (λ e. rw e (omega (arith, reserve-short (longer s.begun byte))))
 
 fed-short : (s : Session) (bytes : List ℕ)
-    → length (fed s bytes).said + reserve (fed s bytes).session.begun ≤ byte_most * length bytes + reserve s.begun
-unfolding fed
+    → length (fed s bytes).said + reserve (fed s bytes).after.begun ≤ byte_most * length bytes + reserve s.begun
+unfolding fed_by
 fed-short s [] = omega arith
 fed-short s (byte ∷ bytes) =
     let f = fed_byte s byte in
-    omega (arith, length-append f.said (fed f.session bytes).said, byte-short s byte, fed-short f.session bytes)
+    omega (arith, length-append f.said (fed f.after bytes).said, byte-short s byte, fed-short f.after bytes)
 
 -- ---- the end
 
@@ -124,22 +129,31 @@ unfolding last_ended
 last-short s = split (has_begun s.begun) (λ e. rw e (ended-short s)) (λ e. rw e (omega arith))
 
 pub closing-short : (s : Session) (blocks heads : ℕ)
-    → length (last_ended s).session.state.tables.blocks.sequences ≤ blocks → length (last_ended s).session.state.tables.heads.tips ≤ heads
+    → length (last_ended s).after.state.tables.blocks.sequences ≤ blocks → length (last_ended s).after.state.tables.heads.tips ≤ heads
     → length (closing s) ≤ print_most + 96 * (blocks + heads)
 unfolding closing tables_listed
 closing-short s blocks heads b h =
-    let t = (last_ended s).session.state.tables in
+    let t = (last_ended s).after.state.tables in
     let l = listing-short t.blocks.parents t.blocks.sequences t.blocks.counts t.blocks.flags t.heads.tips t.heads.tails t.heads.connected in
     simp length-append (omega (arith, last-short s, l))
 
 -- ---- a chunk
 
 -- what so many bytes make a session print has room
-pub feeds : (h g : Held) (bytes came out written : List ℕ) (next : ℕ)
-    → Comes (held_fed h came) (fed (session_in h) came) out 0 g written next → came ≡ take chunk_most bytes → length out ≡ room
-    → Fills (held_fed h (take chunk_most bytes)) (fed (session_in h) (take chunk_most bytes)) out g written next
-feeds h g bytes came out written next c all e =
-    let taken = take chunk_most bytes in
-    fills (held_fed h taken) g (fed (session_in h) taken) out written next
-    (omega (arith, length-take chunk_most bytes, fed-short (session_in h) taken, reserve-short (session_in h).begun))
-    (rw all at c)
+pub feeds : (r : MutBor (List ℕ)) (page next : Page) (h g : Held) (bytes : List ℕ) → page ≡ page_at r 0 → length r.now ≡ room
+    → Leaves (fed_by kept_byte (kept h) (take chunk_most bytes)) page (kept g) next
+    → Feeds h (take chunk_most bytes) r.now g next.bytes.now next.at
+feeds r page next h g bytes start whole e =
+    let came = take chunk_most bytes in
+    let s = session_in h in
+    let f = fed s came in
+    let d = rw (kept_fed h s came) at e in
+    let p : next ≡ page_at (record r { now = f.said ++ drop (length f.said) r.now }) (length f.said) =
+    rw start at d.said
+    ∙ printed-front (page_at r 0) f.said refl (omega (arith, length-take chunk_most bytes, fed-short s came, reserve-short s.begun)) in
+    record {
+      held = ap (λ (x : Held × Session). x.0) d.after;
+      session = ap (λ (x : Held × Session). x.1) d.after;
+      text = ap (λ (x : Page). x.bytes.now) p;
+      end = ap (λ (x : Page). x.at) p;
+    }

@@ -14,12 +14,13 @@ use Rattle.rules.specs.Rebuild.{rebuild_at, rebuild_heads, rebuilt, restarted}
 use Rattle.rules.specs.Timer.{due, may_ask, asks_before, chosen, claimed, ask_at, recovery, mark_requested}
 use Rattle.rules.specs.Calls.{shaped, fresh_state, admit_at, admit, is_next, promote, holds_active, remove, asked, timer, restart, step, fresh}
 use Rattle.trial_lines.specs.Begun.{longer, has_begun, line_begun}
+use Rattle.trial_lines.specs.Fed.{fed}
 use Rattle.trial_lines.specs.Reading.{field_length, all_digits, value_from, number, hash_byte, fresh_of, admit_of, slot_of, timer_of, parse}
 use Rattle.trial_lines.specs.Text.{bytes_from as text_from, bytes}
 use Rattle.trial_lines.specs.Writing.{digits_in, digits, hex, field, reference, letter_line, number_line, request_line, none_due_line, block_line, head_line}
 use Rattle.trial_listing.specs.Listing.{block_shown, head_shown, lines_below, listing_of}
 use Rattle.trial_calls.specs.Calling.{called, done_said, line_said, is_refused}
-use Rattle.trial_session.specs.Session.{unless_refused, line_done, line_fed, ended, fed_byte, fed, last_ended, tables_listed, closing, start, transcript}
+use Rattle.trial_session.specs.Session.{unless_refused, line_done, line_fed, ended, fed_byte, last_ended, tables_listed, closing, start, transcript}
 
 as_said : transcript (bytes "N 4 2\nA 5 0a 09 1\nA 6 0b 0a 2\nA 6 0c 0a 3\nT 10 5\nP 0\nA 6 0b 0a 4\nA 7 0d 0e 20\n")
     ≡ bytes "A 0\nA 1\nA 2\nT 0 4 09\nP 0\nE 6\nA 3\nB 0 5 - 1 1\nB 2 6 0 1 0\nB 3 7 - 1 0\nH 0 3 S 3\nH 1 2 C 0\n"

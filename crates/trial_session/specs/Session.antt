@@ -1,8 +1,9 @@
 -- A trial (01, "One trial whole"): what a line does to a session, what a byte does, and what a whole input prints.
-use Rattle.std.specs.Prelude.{List, [], ◌∷◌, ◌++◌, ℕ, eqb, if◌then◌else◌, Option, Some, None}
+use Rattle.std.specs.Prelude.{List, [], ◌++◌, ℕ, eqb, if◌then◌else◌, Option, Some, None}
 use Rattle.rules.specs.Records.{Tables}
 use Rattle.rules.specs.Calls.{State, Stepped, answering, fresh_state, fresh}
 use Rattle.trial_lines.specs.Begun.{Begun, so_far, longer, has_begun, line_begun}
+use Rattle.trial_lines.specs.Fed.{Fed, fed as fed_by, fed_in_chunks}
 use Rattle.trial_lines.specs.declared.Line.{Line}
 use Rattle.trial_lines.specs.declared.Line.TheVariants.{Fresh, Admit, Promote, Remove, Under, Screen, Timer, Restart}
 use Rattle.trial_calls.specs.Calling.{called, line_said, is_refused}
@@ -32,45 +33,36 @@ pub record Session : Type 0 where
   pub state : State
   pub begun : Begun
 
--- what a session is after some bytes, and what they made it print
-pub record Fed : Type 0 where
-  pub session : Session
-  pub said : List ℕ
-
 -- a line is done, and the next begins
-unfoldable pub line_fed : (s : State) (line : Option Line) → Fed
+unfoldable pub line_fed : (s : State) (line : Option Line) → Fed Session
 line_fed s line =
     let d = line_done s line in
-    record { session = record { state = d.after; begun = so_far [] }; said = line_said line d.answer }
+    record { after = record { state = d.after; begun = so_far [] }; said = line_said line d.answer }
 
-unfoldable pub ended : (s : Session) → Fed
+unfoldable pub ended : (s : Session) → Fed Session
 ended s = line_fed s.state (line_begun s.begun)
 
 -- the end of a line is the byte 10
-unfoldable pub fed_byte : (s : Session) (byte : ℕ) → Fed
+unfoldable pub fed_byte : (s : Session) (byte : ℕ) → Fed Session
 fed_byte s byte =
     if eqb byte 10 then ended s
-    else record { session = record { state = s.state; begun = longer s.begun byte }; said = [] }
+    else record { after = record { state = s.state; begun = longer s.begun byte }; said = [] }
 
-unfoldable pub fed : (s : Session) (bytes : List ℕ) → Fed
-fed s [] = record { session = s; said = [] }
-fed s (byte ∷ bytes) =
-    let f = fed_byte s byte in
-    let g = fed f.session bytes in
-    record { session = g.session; said = f.said ++ g.said }
+abbrev pub fed : (s : Session) (bytes : List ℕ) → Fed Session
+fed s bytes = fed_by fed_byte s bytes
 
 -- ---- the end
 
 -- the last line may lack its end
-unfoldable pub last_ended : (s : Session) → Fed
-last_ended s = if has_begun s.begun then ended s else record { session = s; said = [] }
+unfoldable pub last_ended : (s : Session) → Fed Session
+last_ended s = if has_begun s.begun then ended s else record { after = s; said = [] }
 
 unfoldable pub tables_listed : (t : Tables) → List ℕ
 tables_listed t =
     listing_of t.blocks.parents t.blocks.sequences t.blocks.counts t.blocks.flags t.heads.tips t.heads.tails t.heads.connected
 
 unfoldable pub closing : (s : Session) → List ℕ
-closing s = let f = last_ended s in f.said ++ tables_listed f.session.state.tables
+closing s = let f = last_ended s in f.said ++ tables_listed f.after.state.tables
 
 -- ---- the whole
 
@@ -79,9 +71,8 @@ unfoldable pub start : Session
 start = record { state = fresh_state 0 0; begun = so_far [] }
 
 unfoldable pub transcript : (input : List ℕ) → List ℕ
-transcript input = let f = fed start input in f.said ++ closing f.session
+transcript input = let f = fed start input in f.said ++ closing f.after
 
 -- the same as a program reads it: chunk after chunk
-unfoldable pub in_chunks : (s : Session) (chunks : List (List ℕ)) → List ℕ
-in_chunks s [] = closing s
-in_chunks s (chunk ∷ chunks) = let f = fed s chunk in f.said ++ in_chunks f.session chunks
+abbrev pub in_chunks : (s : Session) (chunks : List (List ℕ)) → List ℕ
+in_chunks s chunks = fed_in_chunks fed_byte closing s chunks

@@ -10,27 +10,28 @@ ghost use Rattle.trial_session.specs.Held.{new_trial, held_of, session_in, Feeds
 
 use rules::BlockSlot;
 use trial_fronts::Arrays;
-use trial_lines::CHUNK;
+use trial_lines::begun::Begun;
+use trial_lines::chunks::TakesBytes;
+use trial_lines::page::Page;
 
 // How many bytes what is printed may have: a byte makes no more than 1,184, those of a chunk and the first of a line that had begun. At the
 // end of a trial a last line makes no more than 2,368, and each slot 96.
 pub const ROOM: usize = 2426016;
 
-// How many slots of the arrays are in use, the record, and how many bytes of a line have come, 129 for too many.
+// How many slots of the arrays are in use, and the record.
 #[derive(Clone, Copy)]
 pub struct Trial {
     pub n: u32,
     pub m: u32,
     pub active: BlockSlot,
-    pub begun: usize,
 }
 
-// The tables stand at the front of the arrays, what has come of a line at the start of its buffer.
+// The tables, which stand at the front of the arrays, and what has come of a line.
 #[derive(Drop)]
 pub struct Session {
     pub arrays: Arrays,
-    pub line: [u8; 128],
     pub trial: Trial,
+    pub begun: Begun,
 }
 
 impl Session {
@@ -53,13 +54,12 @@ impl Session {
                 arrivals: [0; 65],
                 connected: [0; 65],
             },
-            line: [0; 128],
             trial: Trial {
                 n: 0,
                 m: 0,
                 active: BlockSlot::NONE_REF,
-                begun: 0,
             },
+            begun: Begun::new(),
         }
     }
 
@@ -67,18 +67,18 @@ impl Session {
     pub fn feed(&mut self, chunk: &[u8], out: &mut [u8; ROOM]) -> usize
         ensures { Feeds (held_of self.old) (take chunk_most chunk.now) out.old (held_of self.new) out.new result }
     {
-        let mut at = 0;
-        for byte in &chunk[..chunk.len().min(CHUNK)] {
-            at = self.take_byte(*byte, out, at);
-        }
-        at
+        let mut page = Page::start(out);
+        self.take_chunk(chunk, &mut page);
+        page.at
     }
 
     // The last line, if it lacks its end, and the tables.
     pub fn close(&mut self, out: &mut [u8; ROOM]) -> usize
         ensures { Closes (held_of self.old) out.old (held_of self.new) out.new result }
     {
-        let at = self.end_last(out);
-        self.arrays.list(self.trial.n, self.trial.m, out, at)
+        let mut page = Page::start(out);
+        self.end_last(&mut page);
+        self.arrays.list(self.trial.n, self.trial.m, &mut page);
+        page.at
     }
 }

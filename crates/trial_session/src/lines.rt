@@ -1,13 +1,15 @@
-// Bytes joined to lines, and lines done. What is returned is the place after what is printed.
-ghost use Rattle.std.specs.Prelude.{◌≡◌, leb, length, take, if◌then◌else◌};
-ghost use Rattle.trial_lines.specs.Begun.{so_far, too_long, line_begun};
-ghost use Rattle.trial_session.specs.Held.{held_of, asked as asked_rule, sizes_after, EndsLine, TakesByte, EndsLast};
+// Lines done.
+ghost use Rattle.std.specs.Prelude.{◌≡◌, if◌then◌else◌};
+ghost use Rattle.trial_lines.specs.Fed.{Leaves};
+ghost use Rattle.trial_session.specs.Session.{Session as SessionRule};
+ghost use Rattle.trial_session.specs.Held.{Held, held_of, kept_of, kept_byte, kept_closed, asked as asked_rule, sizes_after, DoesLine};
 
 use crate::{Session, Trial};
 use trial_calls::Told;
 use trial_lines::Line;
-use trial_lines::begun::join;
-use trial_lines::read::read_line;
+use trial_lines::begun::Begun;
+use trial_lines::chunks::TakesBytes;
+use trial_lines::page::Page;
 
 // The sizes that a line's call is given: its own if it is fresh.
 #[tactic(auto, unfolding(crate::specs::Held::asked))]
@@ -28,53 +30,46 @@ fn after(trial: Trial, sizes: Trial, told: Told) -> Trial
     let kept = if told.renewed { sizes } else { trial };
     Trial {
         active: told.active,
-        begun: 0,
         ..kept
     }
 }
 
-// What has come of a line, as a whole one: more bytes than the buffer has are too many.
-#[tactic(auto, unfolding(trial_lines::specs::Begun::line_begun))]
-fn line_of(line: &[u8], begun: usize) -> Option<Line>
-    ensures { result
-        ≡ line_begun (if leb begun (length line.now) then so_far (take begun line.now) else too_long) }
-{
-    read_line(line.get(..begun)?)
-}
-
 impl Session {
-    // What has come is a line, and the next begins.
-    fn end_line(&mut self, out: &mut [u8], at: usize) -> usize
-        ensures { EndsLine (held_of self.old) out.old at (held_of self.new) out.new result }
+    // A line's call.
+    fn do_line(&mut self, line: Option<Line>, page: &mut Page<'_>)
+        ensures { DoesLine (held_of self.old) line page.old (held_of self.new) page.new }
     {
-        let line = line_of(&self.line, self.trial.begun);
         let trial = self.trial;
         let sizes = asked(trial, line);
         let told = self
             .arrays
-            .answer(sizes.n, sizes.m, trial.active, line, out, at);
+            .answer(sizes.n, sizes.m, trial.active, line, page);
         self.trial = after(trial, sizes, told);
-        told.at
-    }
-
-    // The byte 10 ends a line; any other joins it.
-    pub(crate) fn take_byte(&mut self, byte: u8, out: &mut [u8], at: usize) -> usize
-        ensures { TakesByte (held_of self.old) byte out.old at (held_of self.new) out.new result }
-    {
-        if byte == b'\n' {
-            return self.end_line(out, at);
-        }
-        self.trial.begun = join(&mut self.line, self.trial.begun, byte);
-        at
     }
 
     // The last line may lack its end.
-    pub(crate) fn end_last(&mut self, out: &mut [u8]) -> usize
-        ensures { EndsLast (held_of self.old) out.old (held_of self.new) out.new result }
+    pub(crate) fn end_last(&mut self, page: &mut Page<'_>)
+        ensures { Leaves (kept_closed (kept_of self.old)) page.old (kept_of self.new) page.new }
     {
-        if self.trial.begun == 0 {
-            return 0;
+        if self.begun.has_begun() {
+            let line = self.begun.line();
+            self.begun = Begun::new();
+            self.do_line(line, page);
         }
-        self.end_line(out, 0)
+    }
+}
+
+impl TakesBytes for Session {
+    ghost State = { Held × SessionRule };
+
+    ghost shown = { kept_of };
+
+    ghost one = { kept_byte };
+
+    // A byte that ends a line has it done.
+    fn take_byte(&mut self, byte: u8, page: &mut Page<'_>) {
+        if let Some(line) = self.begun.take(byte) {
+            self.do_line(line.line(), page);
+        }
     }
 }

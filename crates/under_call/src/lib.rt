@@ -3,7 +3,7 @@
 #![tactic(auto)]
 
 ghost use Rattle.std.specs.Prelude.{◌≡◌, true, List, ℕ, ◌+◌, ◌≤◌, max, length, get_or, set};
-ghost use Rattle.rules.specs.Records.{NONE, slots_of, sequence_at, parent_at, occupied, tables_of};
+ghost use Rattle.rules.specs.Records.{NONE, slots_of, sequence_at, parent_at, occupied, viewed};
 ghost use Rattle.rules.specs.Under.{hanging, highest as highest_rule};
 ghost use Rattle.rules.specs.Answers.{hanging_said};
 ghost use Rattle.rules.specs.Calls.{state_of, max_blocks, under as under_rule, Does};
@@ -11,7 +11,7 @@ ghost use Rattle.under_call.specs.Lists.{Listed, Placed, down_from};
 
 use blocks::is_occupied;
 use cells::{cell_at, put_cell, slots};
-use rules::{BlockSlot, Hanging, Refusal, Sequence};
+use rules::{BlockSlot, Hanging, Refusal, Sequence, View};
 use shape::is_shaped;
 
 // The block comes before its siblings in its parent's list.
@@ -94,43 +94,23 @@ fn met_under(parents: &[u32], sequences: &[u32], root: BlockSlot) -> Hanging
     let below = BlockSlot(cell_at(&first, root.0));
     let met = go_down(sequences, &first, &next, below, slots(sequences) - 1);
     let own = Sequence(cell_at(sequences, root.0));
-    let blocks = met.blocks + 1;
-    let highest = own.max(met.highest);
-    Hanging { blocks, highest }
+    Hanging {
+        blocks: met.blocks + 1,
+        highest: own.max(met.highest),
+    }
 }
 
 // How many blocks hang under the slot, n levels with its own, a block met at several of them counted at each, and the highest sequence
 // among them. Nothing is written.
-pub fn under(
-    hashes: &[u8],
-    parents: &[u32],
-    sequences: &[u32],
-    counts: &[u8],
-    flags: &[u8],
-    tips: &[u32],
-    tails: &[u32],
-    missing: &[u8],
-    requested: &[u64],
-    arrivals: &[u64],
-    connected: &[u8],
-    slot: BlockSlot,
-) -> Result<Hanging, Refusal>
-    ensures { (active_head : ℕ) → Does (hanging_said result)
-        (tables_of hashes.now parents.now sequences.now counts.now flags.now
-        tips.now tails.now missing.now requested.now arrivals.now connected.now)
-        (under_rule
-        (state_of (tables_of hashes.now parents.now sequences.now counts.now flags.now
-        tips.now tails.now missing.now requested.now arrivals.now connected.now) active_head)
-        slot.0) }
+pub fn under(view: &View, slot: BlockSlot) -> Result<Hanging, Refusal>
+    ensures { (active_head : ℕ) → Does (hanging_said result) (viewed view.now)
+        (under_rule (state_of (viewed view.now) active_head) slot.0) }
 {
-    if !is_shaped(
-        hashes, parents, sequences, counts, flags, tips, tails, missing, requested, arrivals,
-        connected,
-    ) {
+    if !is_shaped(view) {
         return Err(Refusal::Shape);
     }
-    if !is_occupied(sequences, slot) {
+    if !is_occupied(view.sequences, slot) {
         return Err(Refusal::NoBlock);
     }
-    Ok(met_under(parents, sequences, slot))
+    Ok(met_under(view.parents, view.sequences, slot))
 }

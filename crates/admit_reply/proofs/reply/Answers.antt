@@ -51,7 +51,7 @@ returns-then-is_some c a r =
     let o = own-hash c.args.hash.now c.if-hash-ne32.false in
     let z : same_hash c.args.hash.now zero_hash ≡ false = cc in
     let s = some-found c.find.result in
-    let k : is_some (find c.args.hashes.now c.args.sequences.now c.args.sequence.0 c.args.hash.now) ≡ true = cc in
+    let k : is_some (find c.args.view.now.hashes.now c.args.view.now.sequences.now c.args.sequence.0 c.args.hash.now) ≡ true = cc in
     rw (e, eq-eqb _ _ c.if-hash-ne32.false, eq-eqb _ _ c.if-previous-ne32.false, sym c.if-eq.ensures, z, k)
 
 slot? {ℓ} : {A : Type ℓ} (r : Option BlockSlot) → (r ≡ None → A) → ((s : BlockSlot) → r ≡ Some s → A) → A
@@ -65,7 +65,7 @@ returns c a r =
     let o = own-hash c.args.hash.now c.if-hash-ne32.false in
     let z : same_hash c.args.hash.now zero_hash ≡ false = cc in
     let s = some-found c.find.result in
-    let k : is_some (find c.args.hashes.now c.args.sequences.now c.args.sequence.0 c.args.hash.now) ≡ false = cc in
+    let k : is_some (find c.args.view.now.hashes.now c.args.view.now.sequences.now c.args.sequence.0 c.args.hash.now) ≡ false = cc in
     rw (
       e,
       eq-eqb _ _ c.if-hash-ne32.false,

@@ -1,8 +1,8 @@
--- `i` is the next slot with the sequence, and none before it holds the block.
-use native.Mathlib.Omega.{arith}
+-- `next` is the next slot with the sequence, and none before it holds the block.
+use Rattle.std.proofs.Common.{arith, sym}
 use Rattle.rules.specs.BlockTable.{find}
 use Rattle.rules.proofs.Search.{lowest-at}
-use Rattle.cells.proofs.Places.{next-after}
+use Rattle.cells.proofs.Places.{searched, slots-few, next-left}
 use Rattle.blocks.proofs.Found.{fits, none_found, found-first, found-next}
 use Rattle.blocks.proofs.find.Goals as goal
 
@@ -10,20 +10,28 @@ pub returns-then-eq : goal.returns-then-eq
 unfolding find
 returns-then-eq c = grind (arith, none_found)
 
-pub loop-i-init : goal.loop-i-init
-loop-i-init c = rw c.next_at-i.ensures (found-first _ _ _ _)
+pub loop-next-init : goal.loop-next-init
+loop-next-init c = rw c.next_at-next.ensures (found-first _ _ _ _)
 
 pub returns-then-same_hash_at : goal.returns-then-same_hash_at
 unfolding find
-returns-then-same_hash_at c = grind (arith, lowest-at, fits)
+returns-then-same_hash_at c =
+    let s = searched _ _ _ _ _ c.in-Some.is c.loop-next.invariant in
+    sym (lowest-at _ c.in-Some.i _ s.1.0 (grind (arith, fits, s.1.1)) s.0)
 
-pub loop-i-smaller : goal.loop-i-smaller
-loop-i-smaller c = omega (arith, next-after)
+pub overflow_add-i : goal.overflow_add-i
+overflow_add-i c = let s = searched _ _ _ _ _ c.in-Some.is c.loop-next.invariant in omega (arith, s.0, slots-few c.args.sequences.now)
 
-pub loop-i-preserved : goal.loop-i-preserved
-loop-i-preserved c =
-    rw c.next_at-i-in-loop-i.ensures (found-next _ _ _ _ c.loop-i.i (omega arith) c.loop-i.invariant (grind (arith, fits)))
+pub loop-next-smaller : goal.loop-next-smaller
+loop-next-smaller c =
+    let s = searched _ _ _ _ _ c.in-Some.is c.loop-next.invariant in
+    rw (c.in-Some.is, c.next_at-next-in-Some.ensures) (next-left _ c.in-Some.i _ s.0)
+
+pub loop-next-preserved : goal.loop-next-preserved
+loop-next-preserved c =
+    let s = searched _ _ _ _ _ c.in-Some.is c.loop-next.invariant in
+    rw c.next_at-next-in-Some.ensures (found-next _ _ _ _ c.in-Some.i s (grind (arith, fits, s.1.1)))
 
 pub returns : goal.returns
 unfolding find
-returns c = grind arith
+returns c = sym (searched _ _ _ _ _ c.in_default.is c.loop-next.invariant)

@@ -6,12 +6,12 @@ use Rattle.eviction.proofs.evict_from.Goals as goal
 
 pub returns-in-None : goal.returns-in-None
 returns-in-None c =
-    rw (← c.slots-turn-end.ensures)
-    (walk-stops _ _ _ _ (omega (arith, c.loop-turn-test.true)) c.in-None.ensures ∙ sym c.loop-turn.invariant)
+    rw (← c.slots-end.ensures)
+    (walk-stops _ _ _ _ (omega (arith, c.loop-test.true)) c.in-None.ensures ∙ sym c.loop.invariant)
 
-pub loop-turn-preserved : goal.loop-turn-preserved
-loop-turn-preserved c =
-    c.loop-turn.invariant ∙ walk-goes _ _ _ _ _ _ (omega (arith, c.loop-turn-test.true)) c.in-Some.ensures
+pub loop-preserved : goal.loop-preserved
+loop-preserved c =
+    c.loop.invariant ∙ walk-goes _ _ _ _ _ _ (omega (arith, c.loop-test.true)) c.in-Some.ensures
 
 pub returns : goal.returns
-returns c = rw (← c.slots-turn-end.ensures) (walk-spent _ _ _ _ (omega arith) c.loop-turn.invariant)
+returns c = rw (← c.slots-end.ensures) (walk-spent _ _ _ _ (omega arith) c.loop.invariant)

@@ -9,4 +9,4 @@ loop-preserved c r h e =
     let small = small-parents c.args.parents.now (λ i. omega (arith, c.type_inv.parents i)) in
     let w = c.loop.invariant r h e in
     let s = same_above _ _ _ _ small w.2 c.loop.current.0 c.in-Some.next.0 w.0 (sym c.in-Some.ensures) in
-    (s.0, sym s.1 ∙ w.1, rw c.keep_known.ensures (remembered _ _ _ _ c.loop.current.0 _ w.2 w.1))
+    (s.0, sym s.1 ∙ w.1, rw c.put_cell.ensures (remembered _ _ _ _ c.loop.current.0 _ w.2 w.1))

@@ -9,7 +9,8 @@ use Rattle.subtree.proofs.verdict.Goals as goal
 pub returns-in-None : goal.returns-in-None
 returns-in-None c r l =
     let small = small-parents c.args.parents.now (λ i. omega (arith, c.type_inv.parents i)) in
-    (c.loop.invariant.1 r l).1 ∙ end-told _ _ _ _ small r c.loop.current.0 (omega arith) (sym c.in-None.ensures) ∙ sym c.told_at.ensures
+    let told = end-told _ _ _ _ small r c.loop.current.0 (omega arith) (sym c.in-None.ensures) in
+    rw c.told_at.ensures ((c.loop.invariant.1 r l).1 ∙ told)
 
 pub loop-preserved : goal.loop-preserved
 loop-preserved c =

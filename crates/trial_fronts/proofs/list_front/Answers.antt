@@ -4,7 +4,7 @@ use Rattle.trial_fronts.proofs.list_front.Goals as goal
 
 pub returns : goal.returns
 returns c =
-    lists-front _ _ _ _ _ _ _ _ _ _ _ _ _ _ _ _ _ _ c.listing.ensures
+    lists-front _ _ _ _ _ _ _ _ _ _ _ _ _ _ _ _ c.listing.ensures
     (front-is _ c.min-parent_end.result c.args.parents.now c.min-parent_end.ensures)
     (front-is _ c.min-sequence_end.result c.args.sequences.now c.min-sequence_end.ensures)
     (front-is _ c.min-count_end.result c.args.counts.now c.min-count_end.ensures)

@@ -20,8 +20,8 @@ go_down-met-requires c =
       (a.parents.now, root-placed a.parents.now a.sequences.now _ _ a.root.0 small listed there c.cell_at.result c.cell_at.ensures),
     )
 
-pub overflow_add-blocks : goal.overflow_add-blocks
-overflow_add-blocks c =
+pub overflow_add-result : goal.overflow_add-result
+overflow_add-result c =
     let a = c.args in
     let (small, there) = c.requires in
     let listed = c.list_children.ensures (none-listed a.parents.now a.sequences.now small) in
@@ -36,6 +36,6 @@ returns c =
     let placed = root-placed a.parents.now a.sequences.now _ _ a.root.0 small listed there c.cell_at.result c.cell_at.ensures in
     let (number, most) = c.go_down-met.ensures a.parents.now placed in (
       root-number a.parents.now a.sequences.now _ _ a.root.0 small listed there _ _ _ 0 c.cell_at.ensures (ap (λ n. n - 1) c.slots.ensures) number,
-      higher _ _ _ c.max-highest.ensures
+      higher _ _ _ c.max.ensures
           ∙ root-highest a.parents.now a.sequences.now _ _ a.root.0 small listed there _ _ 0 _ c.cell_at.ensures (ap (λ n. n - 1) c.slots.ensures) _ c.cell_at-2.ensures most,
     )

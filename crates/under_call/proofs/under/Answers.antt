@@ -1,6 +1,6 @@
 -- Each test in turn, then the count.
 use mathlib.Core.Path.{sym}
-use Rattle.rules.specs.Records.{tables_of}
+use Rattle.rules.specs.Records.{viewed}
 use Rattle.under_call.proofs.Replies.{misshapen, few-slots, no_block, counted}
 use Rattle.under_call.proofs.under.Goals as goal
 
@@ -12,9 +12,7 @@ returns-then-not-is_occupied c = λ active. no_block _ _ (sym c.if-not-is_shaped
 
 pub met_under-requires : goal.met_under-requires
 met_under-requires c =
-    let tables = tables_of c.args.hashes.now c.args.parents.now c.args.sequences.now c.args.counts.now c.args.flags.now c.args.tips.now c.args.tails.now
-    c.args.missing.now c.args.requested.now c.args.arrivals.now c.args.connected.now in
-    (few-slots tables (sym c.if-not-is_shaped.ensures), sym c.if-not-is_occupied.ensures)
+    (few-slots (viewed c.args.view.now) (sym c.if-not-is_shaped.ensures), sym c.if-not-is_occupied.ensures)
 
 pub returns : goal.returns
 returns c =

@@ -3,4 +3,4 @@ use Rattle.trial_session.proofs.First.{starts}
 use Rattle.trial_session.proofs.Session.start.Goals as goal
 
 pub returns-clause-session : goal.returns-clause-session
-returns-clause-session c = starts _ _
+returns-clause-session c = starts _ _ c.new.ensures

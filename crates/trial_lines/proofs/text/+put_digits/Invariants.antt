@@ -1,5 +1,0 @@
--- The places left.
-use Rattle.trial_lines.proofs.text.+put_digits.Given as goal
-
-abbrev pub decreases-put_digits : goal.decreases-put_digits
-decreases-put_digits l = l.places

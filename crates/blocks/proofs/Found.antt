@@ -25,7 +25,7 @@ unfolding next_free
 next_free_slot sequences = next-lowest sequences NONE _ (free sequences)
 
 module _ (hashes sequences : List ℕ) (sequence : ℕ) (hash : List ℕ) where
-  other : (i : ℕ) → sequence_at sequences i ≢ sequence → is_block hashes sequences sequence hash i ≡ false
+  pub other : (i : ℕ) → sequence_at sequences i ≢ sequence → is_block hashes sequences sequence hash i ≡ false
   unfolding is_block
   other i ne = grind arith
 

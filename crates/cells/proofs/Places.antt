@@ -51,9 +51,10 @@ module _ (words : List ℕ) (from value : ℕ) where
       (λ b. rw (lt-leb k j b, less? j from (below j) (λ a. differs j (d.1 j a b))))
       (λ a. rw (le-leb k j a, holds j (omega (arith, d.0)))))
 
-pub slots-few : (words : List ℕ) → slots_of words ≤ NONE
+-- each slot has a number of its own that is not NONE
+pub slots-named : (words : List ℕ) → slots_of words ≤ NONE
 unfolding slots_of
-slots-few words = omega arith
+slots-named words = omega arith
 
 -- how much is left to look at from the next slot on
 abbrev pub left : (words : List ℕ) (next : Option ℕ) → ℕ

@@ -16,6 +16,13 @@ fn fill<C: Cell>(cells: &mut [C], value: C)
     }
 }
 
+// Every byte becomes the value.
+pub fn fill_bytes(bytes: &mut [u8], value: u8)
+    ensures { bytes.new ≡ replicate (length bytes.old) value }
+{
+    fill(bytes, value);
+}
+
 // Every head becomes the empty record, whatever the lengths of the buffers.
 pub fn empty_heads(
     tips: &mut [u32],
@@ -30,10 +37,10 @@ pub fn empty_heads(
 {
     fill(tips, BlockSlot::NONE_REF.0);
     fill(tails, BlockSlot::NONE_REF.0);
-    fill(missing, 0);
+    fill_bytes(missing, 0);
     fill(requested, 0);
     fill(arrivals, 0);
-    fill(connected, 0);
+    fill_bytes(connected, 0);
 }
 
 // Every block slot becomes the empty record, whatever the lengths of the buffers.
@@ -47,9 +54,9 @@ pub fn empty_blocks(
     ensures { blocks_of hashes.new parents.new sequences.new counts.new flags.new
         ≡ blocks_emptied (blocks_of hashes.old parents.old sequences.old counts.old flags.old) }
 {
-    fill(hashes, 0);
+    fill_bytes(hashes, 0);
     fill(parents, BlockSlot::NONE_REF.0);
     fill(sequences, Sequence::NONE_REF.0);
-    fill(counts, 0);
-    fill(flags, 0);
+    fill_bytes(counts, 0);
+    fill_bytes(flags, 0);
 }

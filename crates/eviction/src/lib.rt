@@ -1,18 +1,18 @@
 // Eviction: which head goes, and which blocks go with it. Port of that part of src/chain_heads.rs.
 #![tactic(auto)]
 
-ghost use Rattle.std.specs.Prelude.{◌≡◌};
+ghost use Rattle.std.specs.Prelude.{◌≡◌, ◌&&◌, ◌||◌, eqb, ltb};
 ghost use Rattle.rules.specs.Records.{slots_of, tip_at, blocks_of, tables_of};
 ghost use Rattle.rules.specs.Answers.{slot_found, head_found};
-ghost use Rattle.rules.specs.Eviction.{block_before, may_go, victim, evict_from, evict as evict_rule, evict_one};
+ghost use Rattle.rules.specs.Eviction.{hash_before, may_go, victim, evict_from, evict as evict_rule, evict_one};
 ghost use Rattle.eviction.specs.Visit.{Visits};
 
 use block_changes::delete;
 use block_counts::adjust_head_ref_count;
 use blocks::{is_occupied, is_on_active_chain};
 use cells::{cell_at, slots};
-use heads::{block_before, is_used, put_head};
-use rules::{BlockSlot, Head, HeadSlot};
+use heads::{hash_before, is_used, put_head};
+use rules::{BlockSlot, Head, HeadSlot, Sequence};
 
 #[tactic(auto, unfolding(rules::specs::Eviction::may_go))]
 fn may_go(sequences: &[u32], tips: &[u32], active: BlockSlot, head: HeadSlot) -> bool
@@ -22,19 +22,25 @@ fn may_go(sequences: &[u32], tips: &[u32], active: BlockSlot, head: HeadSlot) ->
     is_used(tips, head) && tip != active && is_occupied(sequences, tip)
 }
 
+// Of two heads, each with its tip's sequence.
 fn goes_before(
     hashes: &[u8],
-    sequences: &[u32],
     tips: &[u32],
-    head: HeadSlot,
-    other: HeadSlot,
+    going: (Sequence, HeadSlot),
+    best: (Sequence, HeadSlot),
 ) -> bool
     ensures { result
-        ≡ block_before hashes.now sequences.now (tip_at tips.now head.0) (tip_at tips.now other.0) }
+        ≡ (ltb going.0.0 best.0.0 || (eqb going.0.0 best.0.0
+        && hash_before hashes.now (tip_at tips.now going.1.0) (tip_at tips.now best.1.0))) }
 {
+    let (sequence, head) = going;
+    let (lowest, other) = best;
+    if sequence != lowest {
+        return sequence < lowest;
+    }
     let tip = BlockSlot(cell_at(tips, head.0));
     let other_tip = BlockSlot(cell_at(tips, other.0));
-    block_before(hashes, sequences, tip, other_tip)
+    hash_before(hashes, tip, other_tip)
 }
 
 // The victim: lowest sequence, then lowest hash, then lowest slot, never the active head nor a head with an empty tip; or none.
@@ -46,16 +52,22 @@ pub fn select_eviction_victim(
 ) -> Option<HeadSlot>
     ensures { head_found result ≡ victim hashes.now sequences.now tips.now active.0 }
 {
+    // A fold that tests each head: a filter's own loop would lie inside that of what follows it, and that is slower. A head whose tip has a
+    // higher sequence than the best so far is left at that, before anything else of it is read.
     (0..slots(tips))
         .map(HeadSlot)
-        .filter(|head| may_go(sequences, tips, active, *head))
-        .reduce(|best, head| {
-            if goes_before(hashes, sequences, tips, head, best) {
-                head
-            } else {
-                best
+        .fold(None, |best: Option<(Sequence, HeadSlot)>, head| {
+            let going = (Sequence(cell_at(sequences, cell_at(tips, head.0))), head);
+            match best {
+                None if may_go(sequences, tips, active, head) => Some(going),
+                Some(first)
+                    if going.0 <= first.0
+                        && may_go(sequences, tips, active, head)
+                        && goes_before(hashes, tips, going, first) => { Some(going) }
+                _ => best,
             }
         })
+        .map(|best| best.1)
 }
 
 // One visit of the walk; the next block to visit, if the walk goes on.

@@ -10,32 +10,32 @@ use children::is_childless;
 use rules::BlockSlot;
 
 #[tactic(auto, unfolding(crate::specs::Named::name_parent))]
-fn name_parent(parents: &[u32], sequences: &[u32], named: &mut [bool], child: BlockSlot)
+fn name_parent(parents: &[u32], sequences: &[u32], named: &mut [u8], child: BlockSlot)
     ensures { named.new ≡ name_parent parents.now sequences.now child.0 named.old }
 {
     if is_occupied(sequences, child) {
-        put_cell(named, cell_at(parents, child.0), true);
+        put_cell(named, cell_at(parents, child.0), 1);
     }
 }
 
-// A slot is named where an occupied block has it as parent, and no other is; a parent past the last place is left out.
-pub fn name_parents(parents: &[u32], sequences: &[u32], named: &mut [bool])
+// A byte becomes 1 where an occupied block has its slot as parent, else 0; a parent past the last byte is left out.
+pub fn name_parents(parents: &[u32], sequences: &[u32], named: &mut [u8])
     ensures { named.new ≡ named_parents parents.now sequences.now (length named.old) }
 {
-    named.fill(false);
+    named.fill(0);
     for i in 0..slots(sequences) {
         name_parent(parents, sequences, named, BlockSlot(i));
     }
 }
 
-// An occupied slot without a child; past the last place the blocks are looked through.
+// An occupied slot without a child; past the last byte the blocks are looked through.
 #[tactic(auto, unfolding(crate::specs::Named::is_end))]
-pub fn is_end(parents: &[u32], sequences: &[u32], named: &[bool], slot: BlockSlot) -> bool
+pub fn is_end(parents: &[u32], sequences: &[u32], named: &[u8], slot: BlockSlot) -> bool
     ensures { result ≡ is_end_rule parents.now sequences.now named.now slot.0 }
 {
     is_occupied(sequences, slot)
         && match named.get(slot.0 as usize) {
-            Some(is_named) => !*is_named,
+            Some(byte) => *byte == 0,
             None => is_childless(parents, sequences, slot),
         }
 }

@@ -1,7 +1,7 @@
 -- Where a head slot is empty, an insertion of a head frees no block, and the slots named as parents stay.
 use Rattle.std.specs.Prelude.{is_some}
 use mathlib.Core.Path.{◌≡◌, refl, sym, ap, ◌∙◌}
-use mathlib.Core.Bool.{Bool, true}
+use mathlib.Core.Bool.{true}
 use mathlib.Core.List.{List}
 use Prim.Native.Nat.{ℕ}
 use lib.ListN.{length}
@@ -29,7 +29,7 @@ unfolding insert_head
 insert-blocks t tip arriving previous arrival active_head f =
     seat-blocks (make_room t active_head) tip arriving previous arrival ∙ room-blocks t active_head f
 
-pub names-stay : (t u : Tables) (tip arriving : ℕ) (previous : List ℕ) (arrival active_head : ℕ) (named : List Bool)
+pub names-stay : (t u : Tables) (tip arriving : ℕ) (previous : List ℕ) (arrival active_head : ℕ) (named : List ℕ)
     → u ≡ insert_head t tip arriving previous arrival active_head → is_some (first_empty t.heads.tips) ≡ true
     → named ≡ named_parents t.blocks.parents t.blocks.sequences (length named)
     → named ≡ named_parents u.blocks.parents u.blocks.sequences (length named)

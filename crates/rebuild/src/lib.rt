@@ -28,7 +28,7 @@ fn rebuild_at(
     requested: &mut [u64],
     arrivals: &mut [u64],
     connected: &mut [u8],
-    named: &mut [bool],
+    named: &mut [u8],
     arrival: u64,
     active: BlockSlot,
     slot: BlockSlot,
@@ -79,7 +79,7 @@ fn rebuild_heads(
     requested: &mut [u64],
     arrivals: &mut [u64],
     connected: &mut [u8],
-    named: &mut [bool],
+    named: &mut [u8],
     arrival: u64,
     active: BlockSlot,
 )
@@ -134,7 +134,7 @@ pub fn rebuild_from_blocks(
         ≡ rebuilt (tables_of hashes.old parents.old sequences.old counts.old flags.old
         tips.old tails.old missing.old requested.old arrivals.old connected.old) arrival active.0 }
 {
-    let mut named = [false; 1024];
+    let mut named = [0u8; 1024];
     rebuild_heads(
         hashes, parents, sequences, counts, flags, tips, tails, missing, requested, arrivals,
         connected, &mut named, arrival, active,

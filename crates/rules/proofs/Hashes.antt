@@ -10,7 +10,7 @@ use native.Mathlib.Nat.{add-zero}
 use native.Mathlib.Omega.{arith}
 use borrow.Author.Tests.{eq-eqb, ne_eqb, lt-ltb, le-ltb, eqb-true}
 use lib.Dec.{eqb, ltb}
-use lib.ListN.{length, get_or, drop}
+use lib.ListN.{length, get_or, drop, drop_of_length-le}
 use lib.Seq.{drop-cons, ext_get_or}
 use Rattle.rules.specs.Hashes.{bytes_from, hash_at, same_hash, hash_less, hash_length}
 use Rattle.rules.proofs.Splits.{and-true, and_both, true-not-false}
@@ -55,6 +55,10 @@ module _ (a b : List ℕ) where
   pub same_start : same_hash a b ≡ same_hash (drop 0 a) (drop 0 b)
   same_start = refl
 
+  pub same_end : (i : ℕ) → length a ≤ i → length b ≤ i → same_hash (drop i a) (drop i b) ≡ true
+  unfolding same_hash
+  same_end i la lb = rw (drop_of_length-le a la, drop_of_length-le b lb) refl
+
   module _ (i : ℕ) (la : i < length a) (lb : i < length b) where
     pub same-goes : get_or a i 0 ≡ get_or b i 0 → same_hash (drop i a) (drop i b) ≡ same_hash (drop (i + 1) a) (drop (i + 1) b)
     unfolding same_hash
@@ -75,6 +79,13 @@ module _ (a b : List ℕ) where
     pub less-above : get_or b i 0 < get_or a i 0 → hash_less (drop i a) (drop i b) ≡ false
     less-above h = let k : get_or b i 0 ≤ get_or a i 0 = omega arith in
         less-at ∙ rw (le-ltb (get_or a i 0) (get_or b i 0) k, lt-ltb (get_or b i 0) (get_or a i 0) h)
+
+    pub less-goes : get_or b i 0 ≤ get_or a i 0 → get_or a i 0 ≤ get_or b i 0 → hash_less (drop i a) (drop i b) ≡ hash_less (drop (i + 1) a) (drop (i + 1) b)
+    less-goes h k = less-at ∙ rw (le-ltb (get_or a i 0) (get_or b i 0) h, le-ltb (get_or b i 0) (get_or a i 0) k)
+
+  pub less-end : (i : ℕ) → length a ≤ i → hash_less (drop i a) (drop i b) ≡ false
+  unfolding hash_less
+  less-end i la = rw (drop_of_length-le a la) refl
 
 -- ---- the test means equality
 

@@ -13,9 +13,11 @@ pub mod Best
 pub mod Reduced
 pub mod Timer
 pub mod Placed
+pub mod Rank
 pub mod Walks
 pub mod Refusals
 pub mod Marked
+pub mod Loops
 pub mod Does
 pub mod Kept
 pub mod Demand3

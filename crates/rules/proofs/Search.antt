@@ -119,6 +119,19 @@ module _ (test : ℕ → Bool) where
   unfolding count_below
   count_none = refl
 
+  pub count-passes : (i : ℕ) → test i ≡ true → count_below test (i + 1) ≡ count_below test i + 1
+  unfolding count_below
+  count-passes i e = rw add-one (rw e (omega arith))
+
+  pub count-fails : (i : ℕ) → test i ≡ false → count_below test (i + 1) ≡ count_below test i
+  unfolding count_below
+  count-fails i e = rw add-one (rw e (omega arith))
+
+  pub count-few : (i : ℕ) → count_below test i ≤ i
+  unfolding count_below
+  count-few zero = omega arith
+  count-few (suc i) = split (test i) (λ e. rw e (omega (arith, count-few i))) (λ e. rw e (omega (arith, count-few i)))
+
 -- ---- one after the other
 
 pub in-order-none {ℓ} : {A : Type ℓ} (act : ℕ → A → A) (a : A) → in_order act 0 a ≡ a

@@ -42,3 +42,10 @@ and_both a b e f = rw (e, f)
 pub and_false_r : (a b : Bool) → b ≡ false → (a && b) ≡ false
 and_false_r true b e = e
 and_false_r false b e = refl
+
+pub and_true_r : (a b : Bool) → b ≡ true → (a && b) ≡ a
+and_true_r true b e = e
+and_true_r false b e = refl
+
+pub and-false-l : (a b : Bool) → a ≡ false → (a && b) ≡ false
+and-false-l a b e = rw e

@@ -79,17 +79,21 @@ fn chosen(
         ≡ chosen_rule hashes.now sequences.now tips.now requested.now connected.now
         clock retry }
 {
-    // A fold that tests each head: a filter's own loop would lie inside that of what follows it, and that is slower.
+    // A fold that tests each head: a filter's own loop would lie inside that of what follows it, and that is slower. A head asked for later
+    // than the best so far is left at its time, before anything else of it is read.
     (0..slots(tips))
         .map(HeadSlot)
         .fold(None, |best: Option<(u64, HeadSlot)>, head| {
-            if !may_ask(sequences, tips, requested, connected, clock, retry, head) {
-                return best;
-            }
             let asking = (cell_at(requested, head.0), head);
             match best {
-                Some(first) if !asks_before(hashes, sequences, tips, asking, first) => best,
-                _ => Some(asking),
+                None if may_ask(sequences, tips, requested, connected, clock, retry, head) => {
+                    Some(asking)
+                }
+                Some(first)
+                    if asking.0 <= first.0
+                        && may_ask(sequences, tips, requested, connected, clock, retry, head)
+                        && asks_before(hashes, sequences, tips, asking, first) => { Some(asking) }
+                _ => best,
             }
         })
         .map(|best| best.1)
@@ -154,15 +158,16 @@ pub fn earliest_recovery_deadline(
 ) -> Option<u64>
     ensures { result ≡ deadline tips.now requested.now connected.now retry }
 {
-    // A fold for the same reason as in `chosen`.
+    // A fold for the same reason as in `chosen`, and a time that is no sooner is left as there.
     (0..slots(tips))
         .map(HeadSlot)
         .fold(None, |least: Option<u64>, head| {
-            if !is_stored(tips, connected, head) {
-                return least;
-            }
             let time = cell_at(requested, head.0);
-            Some(least.map_or(time, |least| least.min(time)))
+            match least {
+                Some(first) if first <= time => least,
+                _ if is_stored(tips, connected, head) => Some(time),
+                _ => least,
+            }
         })
         .map(|least| head_eligible_at(least, retry))
 }

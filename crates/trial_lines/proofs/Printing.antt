@@ -15,7 +15,7 @@ use Rattle.trial_lines.specs.declared.page.Page.{Page}
 
 -- ---- the bytes, and the place
 
-sets_then : (l xs ys : List ℕ) (i : ℕ) → sets (sets l i xs) (i + length xs) ys ≡ sets l i (xs ++ ys)
+pub sets_then : (l xs ys : List ℕ) (i : ℕ) → sets (sets l i xs) (i + length xs) ys ≡ sets l i (xs ++ ys)
 sets_then l [] ys i = rw add-zero
 sets_then l (x ∷ xs) ys i =
     let e : suc i + length xs ≡ i + suc (length xs) = omega arith in
@@ -31,7 +31,7 @@ sets-place l xs ys at =
     ∙ sym (sets-out (sets l at xs) ys (at + length xs) (omega arith))
     ∙ sets_then l xs ys at)
 
-place-then : (room at i j : ℕ) → place room (place room at i) j ≡ place room at (i + j)
+pub place-then : (room at i j : ℕ) → place room (place room at i) j ≡ place room at (i + j)
 unfolding place
 place-then room at i j = omega arith
 

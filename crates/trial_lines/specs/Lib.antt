@@ -1,5 +1,6 @@
 pub mod Begun
 pub mod Fed
+pub mod Padded
 pub mod Printing
 pub mod Reading
 pub mod Said

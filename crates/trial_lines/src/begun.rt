@@ -4,32 +4,51 @@ ghost use Rattle.trial_lines.specs.Begun.{so_far, too_long, longer, has_begun as
 
 use crate::Line;
 use crate::read::read_line;
-use arrayvec::ArrayVec;
 use std::marker::Model;
 use std::mem;
 
-// The bytes that have come; none where they are more than a line has.
-#[derive(Drop)]
+const MOST: usize = 128;
+
+// The bytes that have come, at the front of zeros, and how many they are; no bytes and one too many where they are more than a line has.
+#[derive(Clone, Copy)]
 pub struct Begun {
-    bytes: Option<ArrayVec<u8, 128>>,
+    bytes: [u8; MOST],
+    count: usize,
 }
 
 impl Model for Begun {
-    ghost use Rattle.std.specs.Prelude.{Some, None};
-    ghost use Rattle.trial_lines.specs.Begun.{Begun as BegunRule, so_far, too_long};
+    ghost use Rattle.std.specs.Prelude.{◌≡◌};
+    ghost use Rattle.trial_lines.specs.Begun.{Begun as BegunRule};
+    ghost use Rattle.trial_lines.specs.Padded.{begun_of, bytes_of, count_of};
 
     ghost Value = { BegunRule };
 
-    ghost view = { λ b. elim b.bytes [ None ↦ too_long | Some bytes ↦ so_far bytes.items ] };
+    ghost view = { λ b. begun_of b.bytes b.count };
+
+    ghost inverse = { λ begun. record { bytes = bytes_of begun; count = count_of begun } };
+
+    ghost invariant = { λ b. record { bytes = bytes_of (begun_of b.bytes b.count); count = count_of (begun_of b.bytes b.count) } ≡ b };
 }
 
 impl Begun {
     // Before anything came.
+    #[tactic(auto, unfolding(crate::specs::Padded::begun_of, crate::specs::Padded::bytes_of, crate::specs::Padded::count_of))]
     pub fn new() -> Begun
         ensures { result ≡ so_far [] }
     {
         Begun {
-            bytes: Some(ArrayVec::new()),
+            bytes: [0; MOST],
+            count: 0,
+        }
+    }
+
+    #[tactic(auto, unfolding(crate::specs::Padded::begun_of, crate::specs::Padded::bytes_of, crate::specs::Padded::count_of))]
+    fn too_long() -> Begun
+        ensures { result ≡ too_long }
+    {
+        Begun {
+            bytes: [0; MOST],
+            count: MOST + 1,
         }
     }
 
@@ -38,10 +57,11 @@ impl Begun {
     pub fn join(&mut self, byte: u8)
         ensures { self.new ≡ longer self.old byte }
     {
-        if let Some(bytes) = &mut self.bytes
-            && bytes.try_push(byte).is_err()
-        {
-            self.bytes = None;
+        if self.count < MOST {
+            self.bytes[self.count] = byte;
+            self.count += 1;
+        } else if self.count == MOST {
+            *self = Begun::too_long();
         }
     }
 
@@ -62,7 +82,7 @@ impl Begun {
     pub fn has_begun(&self) -> bool
         ensures { result ≡ has_begun_rule self.now }
     {
-        self.bytes.as_ref().is_none_or(|bytes| !bytes.is_empty())
+        self.count != 0
     }
 
     // The bytes that have come; none where they are too many.
@@ -70,7 +90,11 @@ impl Begun {
         ensures some { IfSome result (λ bytes. self.now ≡ so_far bytes.now) }
         ensures none { IfNone result (self.now ≡ too_long) }
     {
-        self.bytes.as_ref().map(ArrayVec::as_slice)
+        if self.count <= MOST {
+            Some(&self.bytes[..self.count])
+        } else {
+            None
+        }
     }
 
     // What it asks for as a whole line.

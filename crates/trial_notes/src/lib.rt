@@ -39,7 +39,7 @@ pub enum Reason {
 pub const ROOM: usize = 196608;
 
 // The number of the line that comes, and what has come of it.
-#[derive(Drop)]
+#[derive(Clone, Copy)]
 pub struct Noting {
     pub number: u64,
     pub begun: Begun,

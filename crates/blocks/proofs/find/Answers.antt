@@ -2,7 +2,7 @@
 use Rattle.std.proofs.Common.{arith, sym}
 use Rattle.rules.specs.BlockTable.{find}
 use Rattle.rules.proofs.Search.{lowest-at}
-use Rattle.cells.proofs.Places.{searched, slots-few, next-left}
+use Rattle.cells.proofs.Places.{searched, slots-named, next-left}
 use Rattle.blocks.proofs.Found.{fits, none_found, found-first, found-next}
 use Rattle.blocks.proofs.find.Goals as goal
 
@@ -20,7 +20,7 @@ returns-then-same_hash_at c =
     sym (lowest-at _ c.in-Some.i _ s.1.0 (grind (arith, fits, s.1.1)) s.0)
 
 pub overflow_add-i : goal.overflow_add-i
-overflow_add-i c = let s = searched _ _ _ _ _ c.in-Some.is c.loop-next.invariant in omega (arith, s.0, slots-few c.args.sequences.now)
+overflow_add-i c = let s = searched _ _ _ _ _ c.in-Some.is c.loop-next.invariant in omega (arith, s.0, slots-named c.args.sequences.now)
 
 pub loop-next-smaller : goal.loop-next-smaller
 loop-next-smaller c =

@@ -3,7 +3,7 @@ use Rattle.std.proofs.Common.{arith, ◌≡◌, ◌+◌}
 use Rattle.rules.specs.Records.{slots_of}
 use Rattle.rules.specs.Caches.{waits_at, knowing}
 use Rattle.rules.proofs.Search.{lowest-next, lowest-at}
-use Rattle.cells.proofs.Places.{searched, slots-few, next-left, search-from, search-first}
+use Rattle.cells.proofs.Places.{searched, slots-named, next-left, search-from, search-first}
 use Rattle.missing_hashes.proofs.Waits.{waits-elsewhere, waits-stored}
 use Rattle.missing_hashes.proofs.knowing.Goals as goal
 
@@ -21,7 +21,7 @@ returns-then-is_stored c =
     rw (e, knowing)
 
 pub overflow_add-k : goal.overflow_add-k
-overflow_add-k c = let s = searched _ _ _ _ _ c.in-Some.is c.loop-next.invariant in omega (arith, s.0, slots-few c.args.tails.now)
+overflow_add-k c = let s = searched _ _ _ _ _ c.in-Some.is c.loop-next.invariant in omega (arith, s.0, slots-named c.args.tails.now)
 
 pub loop-next-smaller : goal.loop-next-smaller
 loop-next-smaller c =
